@@ -5,7 +5,6 @@ ghost use Prim.Native.Nat.{ℕ};
 ghost use lib.ListN.{length};
 ghost use denote.Ref.{now};
 ghost use Rattle.clauses.specs.Book.{Clause, Decides, Lawful, at, slots-of, constant-of, same-clause};
-
 use refusals::slots::SlotSet;
 
 // Clauses by number. A book means a list with a content, a slot set and a constant for each number below its count.

@@ -1,10 +1,9 @@
 ghost use mathlib.Core.Path.{_≡_};
 ghost use mathlib.Core.Bool.{true};
 ghost use Rattle.policy.specs.Binding.{value-slots, static-unbound};
-
-use refusals::NameNumber;
 use crate::template::Template;
 use crate::values::SlotEnv;
+use refusals::NameNumber;
 
 // A template, a link id if it is a link, and values. The values are exactly those of the template's slots, and
 // without a link id there is neither.

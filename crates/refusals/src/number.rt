@@ -2,12 +2,12 @@ ghost use mathlib.Core.Path.{_≡_};
 ghost use mathlib.Core.List.{[], _∷_};
 ghost use Rattle.refusals.specs.Refusals.{slot-bit, table-number, fault-number, fault-value, number as the-number, values as the-values};
 ghost use Rattle.refusals.specs.Listed.{listed};
-ghost use Rattle.refusals.specs.declared.refusal.Refusal.the-variants.{InvalidTemplate as Carried};
-
+ghost use Rattle.refusals.specs.declared.refusal.Refusal.the-variants.{InvalidTemplate as Carried, UnknownName as Unknown};
 use crate::refusal::InvalidTemplate;
 use crate::refusal::Refusal;
 use crate::refusal::Table;
 use crate::refusal::TemplateValidationError;
+use crate::refusal::UnknownName;
 use crate::slots::SlotId;
 
 impl SlotId {
@@ -65,6 +65,15 @@ pub impl From<InvalidTemplate> for Refusal as RefusalFromInvalidTemplate {
     }
 }
 
+// Refusal 1 among all refusals.
+pub impl From<UnknownName> for Refusal as RefusalFromUnknownName {
+    ghost converts = { λ unknown r. r ≡ Unknown (unknown .number) };
+
+    fn from(unknown: UnknownName) -> Refusal {
+        Refusal::UnknownName(unknown.number)
+    }
+}
+
 impl Refusal {
     // The number of the refusal, 1 to 27.
     pub fn number(self) -> u8
@@ -106,10 +115,19 @@ impl Refusal {
     {
         match self {
             Refusal::BookFull => (None, None),
-            Refusal::TooLong(n) | Refusal::TooManyActions(n) | Refusal::BadClause(n) | Refusal::ShortBuffer(n) => (Some(n), None),
+            Refusal::TooLong(n)
+            | Refusal::TooManyActions(n)
+            | Refusal::BadClause(n)
+            | Refusal::ShortBuffer(n) => (Some(n), None),
             Refusal::UnexpectedSlot(slot) => (Some(slot.bit() as usize), None),
-            Refusal::ArityError(unbound, extra) => (Some(unbound.bits as usize), Some(extra.bits as usize)),
-            Refusal::InvalidTemplate(invalid) => (Some(invalid.id as usize), Some(invalid.fault.value() as usize)),
+            Refusal::ArityError(unbound, extra) => (
+                Some(unbound.bits as usize),
+                Some(extra.bits as usize),
+            ),
+            Refusal::InvalidTemplate(invalid) => (
+                Some(invalid.id as usize),
+                Some(invalid.fault.value() as usize),
+            ),
             Refusal::Full(table) => (Some(table.number() as usize), None),
             Refusal::UnknownName(n)
             | Refusal::UnknownClause(n)

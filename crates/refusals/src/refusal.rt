@@ -29,6 +29,12 @@ pub struct InvalidTemplate {
     pub fault: TemplateValidationError,
 }
 
+// Refusal 1 on its own, for a call that lends and can be refused for nothing else.
+#[derive(Clone, Copy, PartialEq, Eq, Debug)]
+pub struct UnknownName {
+    pub number: NameNumber,
+}
+
 // Why a call was refused. The names are those of the Rust where it has one.
 #[derive(Clone, Copy, PartialEq, Eq, Debug)]
 pub enum Refusal {

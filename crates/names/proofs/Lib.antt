@@ -1,0 +1,5 @@
+pub mod Bools
+pub mod Pieces
+pub mod Names
+pub mod Naming
+pub mod TypeNames
