@@ -1,1 +1,2 @@
 mod FirstWord
+mod Spelling

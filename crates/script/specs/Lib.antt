@@ -1,3 +1,4 @@
 pub mod Words
 pub mod Front
 pub mod Cursor
+pub mod Percent

@@ -1,1 +1,2 @@
+pub mod percent;
 pub mod words;
