@@ -24,7 +24,7 @@ spelled-percent b (h ∷ (l ∷ word)) e =
     ap (λ (t : Bool). cond t (put (hex-byte (hex-value h) (hex-value l)) (spelled word)) (put (Some b) (spelled (h ∷ (l ∷ word))))) (eq-eqb b 37 e)
 
 -- A word that begins with another byte.
-spelled-other : (b : ℕ) (word : List ℕ) → (b ≡ 37 → ⊥) → spelled (b ∷ word) ≡ put (Some b) (spelled word)
+pub spelled-other : (b : ℕ) (word : List ℕ) → (b ≡ 37 → ⊥) → spelled (b ∷ word) ≡ put (Some b) (spelled word)
 spelled-other b [] e = ap (λ (t : Bool). cond t None (Some (b ∷ []))) (ne-eqb b 37 e)
 spelled-other b (h ∷ []) e = ap (λ (t : Bool). cond t None (put (Some b) (spelled (h ∷ [])))) (ne-eqb b 37 e)
 spelled-other b (h ∷ (l ∷ word)) e =
@@ -51,7 +51,7 @@ behind-put front b (Some text) = ap (λ (l : List ℕ). Some l) (sym (append-ass
 -- A word that is neither empty nor `%` alone means what it spells.
 pub decoded-spelled : (word : List ℕ) → 0 < length word → (word ≡ 37 ∷ [] → ⊥) → decoded word ≡ spelled word
 decoded-spelled [] h k = absurd (omega arith)
-decoded-spelled (b ∷ []) h k = 
+decoded-spelled (b ∷ []) h k =
     let e = ne-eqb b 37 (λ e. k (ap (λ (c : ℕ). c ∷ []) e)) in
     ap (λ (t : Bool). cond t (Some []) (Some (b ∷ []))) e ∙ sym (ap (λ (t : Bool). cond t None (Some (b ∷ []))) e)
 decoded-spelled (b ∷ (c ∷ word)) h k = refl

@@ -2,3 +2,4 @@ pub mod Words
 pub mod Front
 pub mod Cursor
 pub mod Percent
+pub mod Number

@@ -1,13 +1,13 @@
 -- Texts of any bytes as words, percent-encoded.
 use mathlib.Core.List.{List, [], _∷_, _++_}
-use mathlib.Core.Bool.{Bool, false, cond, _&&_, _||_}
+use mathlib.Core.Bool.{Bool, true, false, cond, _&&_, _||_}
 use Prim.Native.Nat.{ℕ, _+_, _-_, _*_, _/_, _%_}
 use lib.Dec.{eqb, leb, ltb}
 use Rattle.std.specs.declared.option.Option.{Option}
 use Rattle.std.specs.declared.option.Option.the-variants.{Some, None}
 use Rattle.std.specs.Joined.{joined}
-use Rattle.script.specs.declared.percent.Colon.{Colon}
-use Rattle.script.specs.declared.percent.Colon.the-variants.{Coded, Plain}
+use Rattle.script.specs.declared.encode.Colon.{Colon}
+use Rattle.script.specs.declared.encode.Colon.the-variants.{Coded, Plain}
 
 -- A byte from the one to the other.
 abbrev pub within : ℕ → ℕ → ℕ → Bool
@@ -49,3 +49,26 @@ abbrev pub decoded : List ℕ → Option (List ℕ)
 decoded [] = None
 decoded (b ∷ []) = cond (eqb b 37) (Some []) (Some (b ∷ []))
 decoded (b ∷ (c ∷ word)) = spelled (b ∷ (c ∷ word))
+
+-- Whether colons stand for themselves.
+abbrev pub plain-colon : Colon → Bool
+plain-colon Coded = false
+plain-colon Plain = true
+
+-- The bytes that stand for themselves: ASCII letters, digits, `_`, `.`, and colons where they are plain.
+abbrev pub plain : Colon → ℕ → Bool
+plain colon b =
+    (within 97 122 b || (within 65 90 b || within 48 57 b)) || ((eqb b 95 || eqb b 46) || (eqb b 58 && plain-colon colon))
+
+-- The hexadecimal digit of a value below 16, a capital one above 9.
+abbrev pub hex-digit : ℕ → ℕ
+hex-digit v = cond (ltb v 10) (48 + v) (55 + v)
+
+-- A byte as it is written.
+abbrev pub written : Colon → ℕ → List ℕ
+written colon b = cond (plain colon b) (b ∷ []) (37 ∷ hex-digit (b / 16) ∷ hex-digit (b % 16) ∷ [])
+
+-- A text as it is written: byte by byte, and `%` where it is empty.
+abbrev pub encoded : Colon → List ℕ → List ℕ
+encoded colon [] = 37 ∷ []
+encoded colon (b ∷ text) = joined (written colon) (b ∷ text)

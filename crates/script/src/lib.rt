@@ -1,2 +1,4 @@
-pub mod percent;
+pub mod decode;
+pub mod encode;
+pub mod number;
 pub mod words;

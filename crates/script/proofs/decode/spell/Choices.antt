@@ -3,7 +3,7 @@ use lib.ListN.{length}
 use Rattle.std.specs.Of.Vec.{vec-items}
 use Rattle.script.specs.Percent.{spelled}
 use Rattle.script.proofs.Spelling.{behind}
-use Rattle.script.proofs.percent.spell.Given as given
+use Rattle.script.proofs.decode.spell.Given as given
 
 abbrev pub Inv-loop-rest : given.InvT-loop-rest
 Inv-loop-rest l = behind (vec-items (l .text)) (spelled (l .rest)) ≡ spelled (l .word)

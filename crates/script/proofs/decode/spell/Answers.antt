@@ -5,7 +5,7 @@ use Rattle.std.specs.declared.option.Option.{Option}
 use Rattle.std.specs.Of.Vec.{vec-items}
 use Rattle.script.specs.Percent.{spelled}
 use Rattle.script.proofs.Spelling.{behind, behind-put}
-use Rattle.script.proofs.percent.spell.Needs as need
+use Rattle.script.proofs.decode.spell.Needs as need
 
 pub loop-rest-again : need.loop-rest-again
 loop-rest-again c =

@@ -11,7 +11,7 @@ use Rattle.std.proofs.shelf.Lists.{take-rest}
 use denote.Ref.{RefT}
 use Rattle.script.specs.Percent.{coded, put, spelled}
 use Rattle.script.proofs.Spelling.{spelled-coded, spelled-plain}
-use Rattle.script.proofs.percent.first_byte.Needs as need
+use Rattle.script.proofs.decode.first_byte.Needs as need
 
 -- What the digits behind a `%` give is what the word gives.
 by-coded : (word rest : List ℕ) (r : Option (ℕ × RefT (List ℕ))) → spelled word ≡ put (coded rest) (spelled (drop 2 rest)) → length rest < length word

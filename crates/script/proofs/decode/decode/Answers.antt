@@ -10,7 +10,7 @@ use Rattle.std.specs.Options.{mapped}
 use Rattle.std.specs.Vec.{made}
 use Rattle.std.proofs.shelf.Equals.{matches-decides}
 use Rattle.script.proofs.Spelling.{decoded-spelled}
-use Rattle.script.proofs.percent.decode.Needs as need
+use Rattle.script.proofs.decode.decode.Needs as need
 
 pub returns : need.returns
 returns c =

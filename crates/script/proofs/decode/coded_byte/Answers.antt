@@ -4,7 +4,7 @@ use borrow.Author.Needs.{needs}
 use lib.ListN.{length}
 use Rattle.std.proofs.shelf.Lists.{take-rest}
 use Rattle.script.proofs.Spelling.{coded-at}
-use Rattle.script.proofs.percent.coded_byte.Needs as need
+use Rattle.script.proofs.decode.coded_byte.Needs as need
 
 pub returns : need.returns
 returns c =

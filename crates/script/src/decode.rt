@@ -3,20 +3,11 @@ ghost use Prim.Native.Nat.{_<_};
 ghost use lib.ListN.{length, drop};
 ghost use Rattle.std.specs.Of.Vec.{vec-items};
 ghost use Rattle.std.specs.Options.{Cases as BySome, mapped};
-ghost use Rattle.std.specs.declared.option.Option.the-variants.{Some as Present, None as Absent};
 ghost use Rattle.std.specs.Vec.{made};
+ghost use Rattle.std.specs.declared.option.Option.the-variants.{Some as Present, None as Absent};
 ghost use Rattle.script.specs.Percent.{hex-value, hex-byte, coded, put, spelled, decoded};
 use std::alloc::AllocError;
 use std::alloc::Global;
-
-// How a text's colons are written.
-#[derive(Clone, Copy)]
-pub enum Colon {
-    // Encoded.
-    Coded,
-    // As they are, in a type.
-    Plain,
-}
 
 // The value of a hexadecimal digit, capital or small.
 fn hex_value(digit: u8) -> Option<u8>
@@ -51,7 +42,7 @@ fn coded_byte(word: &[u8]) -> Option<(u8, &[u8])>
     Some((byte, rest))
 }
 
-// The first byte that a word spells, and the rest of the word; none where the word is empty or the byte is spelled wrong.
+// The first byte that a word spells, which is not empty, and the rest of the word; none where it is spelled wrong.
 fn first_byte(word: &[u8]) -> Option<(u8, &[u8])>
     requires { ⌜ 0 < length (now word) ⌝ }
     ensures { λ r. ⌜ BySome r (spelled (now (word .entry)) ≡ Absent) (λ first. (spelled (now (word .entry)) ≡ put (Present (first .0)) (spelled (now (first .1)))) × (length (now (first .1)) < length (now (word .entry)))) ⌝ }
