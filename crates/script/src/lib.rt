@@ -1,0 +1,4 @@
+pub mod decode;
+pub mod encode;
+pub mod number;
+pub mod words;
