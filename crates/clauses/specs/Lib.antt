@@ -1,2 +1,4 @@
 pub mod Book
 pub mod Tree
+pub mod Pieces
+pub mod Kept
