@@ -1,2 +1,3 @@
 pub mod book;
-pub mod pieces;
+mod pieces;
+pub mod sealed;
