@@ -26,12 +26,13 @@ turn n h state (b ∷ bs) l =
 pub again : (n more : ℕ) (state next : Scanner) (rest text : List ℕ) → n < 4 → 0 < length rest
     → bitOr n (slots-left state rest) ≡ text-slots text → more ≡ slots-seen state rest → next ≡ stepped state (getD rest 0 0)
     → (bitOr n more < 4) × (bitOr (bitOr n more) (slots-left next (take (length rest - 1) (drop 1 rest))) ≡ text-slots text)
-again n more state next rest text h l inv m s =
-    ( subst (λ (x : ℕ). bitOr n x < 4) (sym m) (or-lt 2 n (slots-seen state rest) h (set-small (seen Principal state rest) (seen Resource state rest)))
-    , ap (λ (x : ℕ). bitOr (bitOr n x) (slots-left next (take (length rest - 1) (drop 1 rest)))) m
+again n more state next rest text h l inv m s = (
+  subst (λ (x : ℕ). bitOr n x < 4) (sym m) (or-lt 2 n (slots-seen state rest) h (set-small (seen Principal state rest) (seen Resource state rest))),
+  ap (λ (x : ℕ). bitOr (bitOr n x) (slots-left next (take (length rest - 1) (drop 1 rest)))) m
       ∙ ap (λ (x : Scanner). bitOr (bitOr n (slots-seen state rest)) (slots-left x (take (length rest - 1) (drop 1 rest)))) s
       ∙ ap (λ (x : List ℕ). bitOr (bitOr n (slots-seen state rest)) (slots-left (stepped state (getD rest 0 0)) x)) (take-rest rest 1)
-      ∙ turn n h state rest l ∙ inv )
+      ∙ turn n h state rest l ∙ inv,
+)
 
 -- Nothing is left at the end.
 pub over : (n : ℕ) (state : Scanner) (rest text : List ℕ) → length rest < 1 → bitOr n (slots-left state rest) ≡ text-slots text

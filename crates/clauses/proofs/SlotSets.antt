@@ -81,7 +81,7 @@ set-in Resource p false h = let z : _≡_ {A = ℕ} 0 1 = cc in absurd (omega ar
 -- A set tells what its two answers tell.
 pub set-tells : (slot : SlotId) (p r : Bool) (n : ℕ) (P : Type 0) → n ≡ slot-set p r
     → (answer slot p r ≡ true → P) → (P → answer slot p r ≡ true) → Tells n slot P
-set-tells slot p r n P e f g = record
-    { only = λ h. f (in-set slot p r (ap (λ (x : ℕ). bitAnd x (slot-bit slot)) (sym e) ∙ h))
-    ; whenever = λ h. ap (λ (x : ℕ). bitAnd x (slot-bit slot)) e ∙ set-in slot p r (g h)
-    }
+set-tells slot p r n P e f g = record {
+  only = λ h. f (in-set slot p r (ap (λ (x : ℕ). bitAnd x (slot-bit slot)) (sym e) ∙ h));
+  whenever = λ h. ap (λ (x : ℕ). bitAnd x (slot-bit slot)) e ∙ set-in slot p r (g h);
+}

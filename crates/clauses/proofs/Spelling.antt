@@ -44,14 +44,15 @@ seen-outside slot Escaped text h = let z : _≡_ {A = ℕ} 0 1 = cc in absurd (o
 scanned-from : (slot : SlotId) (state : Scanner) (text : List ℕ) → scanned slot state text ≡ true → From slot state text
 scanned-from slot state [] h = let z : _≡_ {A = ℕ} 0 1 = cc in absurd (omega arith)
 scanned-from slot state (b ∷ bs) h =
-    elim (or-cases (seen slot state (b ∷ bs)) (scanned slot (stepped state b) bs) h)
-    [ inl p ↦
-        let w = seen-outside slot state (b ∷ bs) p in
-        let k = starts-split (spelling slot) (b ∷ bs) (w .1) in
-        record { front = []; rest = k .0; split = k .1; outside = w .0; over = k .2 }
-    | inr q ↦
-        let k = scanned-from slot (stepped state b) bs q in
-        record { front = b ∷ k .front; rest = k .rest; split = ap (λ (l : List ℕ). b ∷ l) (k .split); outside = k .outside; over = k .over } ]
+    elim (or-cases (seen slot state (b ∷ bs)) (scanned slot (stepped state b) bs) h) [
+      | inl p ↦
+          let w = seen-outside slot state (b ∷ bs) p in
+          let k = starts-split (spelling slot) (b ∷ bs) (w .1) in
+          record { front = []; rest = k .0; split = k .1; outside = w .0; over = k .2 }
+      | inr q ↦
+          let k = scanned-from slot (stepped state b) bs q in
+          record { front = b ∷ k .front; rest = k .rest; split = ap (λ (l : List ℕ). b ∷ l) (k .split); outside = k .outside; over = k .over }
+    ]
 
 -- A spelling has a first byte, so a text that is a spelling and a rest is not empty.
 seen-scanned : (slot : SlotId) (state : Scanner) (rest : List ℕ) → seen slot state (spelling slot ++ rest) ≡ true → scanned slot state (spelling slot ++ rest) ≡ true
@@ -62,7 +63,7 @@ from-scanned : (slot : SlotId) (state : Scanner) (front rest : List ℕ) → aft
     → scanned slot state (front ++ (spelling slot ++ rest)) ≡ true
 from-scanned slot state [] rest o e =
     seen-scanned slot state rest
-      (subst (λ (s : Scanner). seen slot s (spelling slot ++ rest) ≡ true) (sym o) (split-starts (spelling slot) rest e))
+    (subst (λ (s : Scanner). seen slot s (spelling slot ++ rest) ≡ true) (sym o) (split-starts (spelling slot) rest e))
 from-scanned slot state (b ∷ bs) rest o e = or-right _ _ (from-scanned slot (stepped state b) bs rest o e)
 
 scanned-spells : (slot : SlotId) (text : List ℕ) → scanned slot Plain text ≡ true → Spells slot text

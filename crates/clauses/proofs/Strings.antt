@@ -66,31 +66,45 @@ leads [] Plain h = sealed.Closed.none
 leads [] String h = let z : _≡_ {A = ℕ} 0 1 = cc in absurd (omega arith)
 leads [] Escaped h = let z : _≡_ {A = ℕ} 0 1 = cc in absurd (omega arith)
 leads (b ∷ bs) Plain h =
-    elim (cases-bool (eqb b 34))
-    [ inl q ↦
-        let w = leads bs String (along (stepped Plain b) String bs (opens b q) h) in
-        subst (λ (l : List ℕ). Closed l) (sym (ap (λ (x : ℕ). x ∷ bs) (eqb-true b 34 q) ∙ ap (λ (l : List ℕ). 34 ∷ l) (w .split)))
+    elim (cases-bool (eqb b 34)) [
+      | inl q ↦
+          let w = leads bs String (along (stepped Plain b) String bs (opens b q) h) in
+          subst (λ (l : List ℕ). Closed l) (sym (ap (λ (x : ℕ). x ∷ bs) (eqb-true b 34 q) ∙ ap (λ (l : List ℕ). 34 ∷ l) (w .split)))
           (sealed.Closed.string (w .within) (w .closed))
-    | inr q ↦ sealed.Closed.plain (eqb-false b 34 q) (leads bs Plain (along (stepped Plain b) Plain bs (stays b q) h)) ]
+      | inr q ↦ sealed.Closed.plain (eqb-false b 34 q) (leads bs Plain (along (stepped Plain b) Plain bs (stays b q) h))
+    ]
 leads (b ∷ bs) String h =
-    elim (cases-bool (eqb b 34))
-    [ inl q ↦
-        record
-          { inside = []; rest = bs; split = ap (λ (x : ℕ). x ∷ bs) (eqb-true b 34 q); within = sealed.Inside.none
-          ; closed = leads bs Plain (along (stepped String b) Plain bs (closes b q) h) }
-    | inr q ↦ elim (cases-bool (eqb b 92))
-        [ inl e ↦
+    elim (cases-bool (eqb b 34)) [
+      | inl q ↦
+          record {
+            inside = [];
+            rest = bs;
+            split = ap (λ (x : ℕ). x ∷ bs) (eqb-true b 34 q);
+            within = sealed.Inside.none;
+            closed = leads bs Plain (along (stepped String b) Plain bs (closes b q) h);
+          }
+      | inr q ↦ elim (cases-bool (eqb b 92)) [
+        | inl e ↦
             let w = leads bs Escaped (along (stepped String b) Escaped bs (escapes b q e) h) in
             let k = w .3 in
-            record
-              { inside = 92 ∷ (w .0 ∷ k .inside); rest = k .rest
-              ; split = ap (λ (x : ℕ). x ∷ bs) (eqb-true b 92 e) ∙ ap (λ (l : List ℕ). 92 ∷ l) (w .2 ∙ ap (λ (l : List ℕ). w .0 ∷ l) (k .split))
-              ; within = sealed.Inside.escaped (k .within); closed = k .closed }
+            record {
+              inside = 92 ∷ (w .0 ∷ k .inside);
+              rest = k .rest;
+              split = ap (λ (x : ℕ). x ∷ bs) (eqb-true b 92 e) ∙ ap (λ (l : List ℕ). 92 ∷ l) (w .2 ∙ ap (λ (l : List ℕ). w .0 ∷ l) (k .split));
+              within = sealed.Inside.escaped (k .within);
+              closed = k .closed;
+            }
         | inr e ↦
             let w = leads bs String (along (stepped String b) String bs (goes-on b q e) h) in
-            record
-              { inside = b ∷ w .inside; rest = w .rest; split = ap (λ (l : List ℕ). b ∷ l) (w .split)
-              ; within = sealed.Inside.plain (eqb-false b 34 q) (eqb-false b 92 e) (w .within); closed = w .closed } ] ]
+            record {
+              inside = b ∷ w .inside;
+              rest = w .rest;
+              split = ap (λ (l : List ℕ). b ∷ l) (w .split);
+              within = sealed.Inside.plain (eqb-false b 34 q) (eqb-false b 92 e) (w .within);
+              closed = w .closed;
+            }
+      ]
+    ]
 leads (b ∷ bs) Escaped h = (b, bs, refl, leads bs String h)
 
 pub after-closed : (bs : List ℕ) → after Plain bs ≡ Plain → Closed bs

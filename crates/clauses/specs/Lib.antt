@@ -4,3 +4,6 @@ pub mod Pieces
 pub mod Kept
 pub mod Slots
 pub mod Sealed
+pub mod Entering
+pub mod SealedBooks
+pub mod Contents

@@ -5,7 +5,7 @@ use mathlib.Core.Bool.{Bool, true, false, cond, not, _&&_, _||_}
 use Prim.Native.Nat.{ℕ}
 use lib.Dec.{eqb, leb}
 use lib.Chars.{codes}
-use Rattle.std.specs.shelf.Text.{sameBytes}
+use Rattle.clauses.specs.Contents.{same-list}
 use Rattle.std.specs.declared.option.Option.{Option}
 use Rattle.std.specs.declared.option.Option.the-variants.{Some, None}
 use Rattle.refusals.specs.declared.slots.SlotId.{SlotId}
@@ -86,7 +86,7 @@ text-slots text = slot-set (scanned Principal Plain text) (scanned Resource Plai
 
 -- The constant of bytes exactly `true` or `false`.
 abbrev pub text-constant : List ℕ → Option Bool
-text-constant text = cond (sameBytes text (codes "true")) (Some true) (cond (sameBytes text (codes "false")) (Some false) None)
+text-constant text = cond (same-list eqb (codes "true") text) (Some true) (cond (same-list eqb (codes "false") text) (Some false) None)
 
 -- A text as a clause.
 abbrev pub text-clause : List ℕ → Clause (List ℕ)

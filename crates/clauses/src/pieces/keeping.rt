@@ -27,7 +27,8 @@ impl<T: Copy, const LONGEST: usize> Pieces<T, LONGEST> {
 
     // How many pieces there are.
     pub fn count(&self) -> usize
-        ensures { λ r. ⌜ r ≡ length (kept (now (self .entry))) ⌝ }
+        ensures count { λ r. ⌜ r ≡ length (kept (now (self .entry))) ⌝ }
+        ensures few { λ r. ⌜ r ≤ 256 ⌝ }
     {
         self.ends.len()
     }

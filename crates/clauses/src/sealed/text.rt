@@ -2,7 +2,6 @@ ghost use mathlib.Core.Path.{_≡_};
 ghost use Rattle.refusals.specs.declared.slots.SlotId.{SlotId as Slot};
 ghost use Rattle.clauses.specs.Slots.{Tells};
 ghost use Rattle.clauses.specs.Sealed.{word, stepped, slot-at-start, slots-seen, text-slots, text-constant, Spells};
-
 use crate::sealed::scanner::Scanner;
 use refusals::slots::SlotId;
 use refusals::slots::SlotSet;
@@ -22,12 +21,45 @@ fn slot_at_start(text: &[u8]) -> Option<SlotId>
     ensures { λ r. ⌜ r ≡ slot-at-start (now (text .entry)) ⌝ }
 {
     match text {
-        [b'?', b'p', b'r', b'i', b'n', b'c', b'i', b'p', b'a', b'l', next, ..] => {
-            if is_word(*next) { None } else { Some(SlotId::Principal) }
+        [
+            b'?',
+            b'p',
+            b'r',
+            b'i',
+            b'n',
+            b'c',
+            b'i',
+            b'p',
+            b'a',
+            b'l',
+            next,
+            ..
+        ] => {
+            if is_word(*next) {
+                None
+            } else {
+                Some(SlotId::Principal)
+            }
         }
         [b'?', b'p', b'r', b'i', b'n', b'c', b'i', b'p', b'a', b'l'] => Some(SlotId::Principal),
-        [b'?', b'r', b'e', b's', b'o', b'u', b'r', b'c', b'e', next, ..] => {
-            if is_word(*next) { None } else { Some(SlotId::Resource) }
+        [
+            b'?',
+            b'r',
+            b'e',
+            b's',
+            b'o',
+            b'u',
+            b'r',
+            b'c',
+            b'e',
+            next,
+            ..
+        ] => {
+            if is_word(*next) {
+                None
+            } else {
+                Some(SlotId::Resource)
+            }
         }
         [b'?', b'r', b'e', b's', b'o', b'u', b'r', b'c', b'e'] => Some(SlotId::Resource),
         _ => None,
@@ -73,4 +105,15 @@ pub fn slots_of_text(text: &[u8]) -> SlotSet
         rest = tail;
     }
     SlotSet { bits }
+}
+
+// The constant that a sealed text is, if any.
+pub fn constant_of_text(text: &[u8]) -> Option<bool>
+    ensures { λ r. ⌜ r ≡ text-constant (now (text .entry)) ⌝ }
+{
+    match text {
+        b"true" => Some(true),
+        b"false" => Some(false),
+        _ => None,
+    }
 }

@@ -9,7 +9,7 @@ pub loop-rest-again : need.loop-rest-again
 loop-rest-again c =
     let some : 0 < length (c .loop-rest .rest .now) = search needs in
     again (c .loop-rest .bits) (c .slots-seen-bits .result .bits) (c .loop-rest .scanner) (c .step .last .self) (c .loop-rest .rest .now) (c .args .text .now)
-      (c .loop-rest .inv .0) some (c .loop-rest .inv .1) (c .slots-seen-bits .ensures) (c .step .ensures)
+    (c .loop-rest .inv .0) some (c .loop-rest .inv .1) (c .slots-seen-bits .ensures) (c .step .ensures)
 
 pub returns : need.returns
 returns c =
