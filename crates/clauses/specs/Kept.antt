@@ -3,7 +3,7 @@ use mathlib.Core.List.{List}
 use Prim.Native.Nat.{ℕ}
 use Rattle.std.specs.Of.Vec.{vec-items}
 use Rattle.clauses.specs.declared.pieces.Pieces.{Pieces}
-use Rattle.clauses.specs.Pieces.{pieces}
+use Rattle.names.specs.Pieces.{pieces}
 
 -- The pieces in order.
 abbrev pub kept : {X : Type 0} {longest : ℕ} → Pieces X longest → List (List X)

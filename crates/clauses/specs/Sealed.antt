@@ -3,21 +3,18 @@ use mathlib.Core.Path.{_≡_}
 use mathlib.Core.List.{List, [], _∷_, _++_}
 use mathlib.Core.Bool.{Bool, true, false, cond, not, _&&_, _||_}
 use Prim.Native.Nat.{ℕ}
-use lib.Dec.{eqb, leb}
+use lib.Dec.{eqb}
 use lib.Chars.{codes}
 use Rattle.clauses.specs.Contents.{same-list}
 use Rattle.std.specs.declared.option.Option.{Option}
 use Rattle.std.specs.declared.option.Option.the-variants.{Some, None}
+use Rattle.names.specs.TypeName.{word}
 use Rattle.refusals.specs.declared.slots.SlotId.{SlotId}
 use Rattle.refusals.specs.declared.slots.SlotId.the-variants.{Principal, Resource}
 use Rattle.clauses.specs.declared.sealed.scanner.Scanner.{Scanner}
 use Rattle.clauses.specs.declared.sealed.scanner.Scanner.the-variants.{Plain, String, Escaped}
 use Rattle.clauses.specs.Book.{Clause}
 use Rattle.clauses.specs.Slots.{slot-set}
-
--- An ASCII letter, a digit or an underscore.
-abbrev pub word : ℕ → Bool
-word b = (leb 97 b && leb b 122) || ((leb 65 b && leb b 90) || eqb b 95) || (leb 48 b && leb b 57)
 
 -- What stands inside a string: a double quote (34) only behind a backslash (92), which takes the next byte with it.
 pub data Inside : List ℕ → Type 0 where

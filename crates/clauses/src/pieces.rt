@@ -3,7 +3,7 @@ ghost use mathlib.Core.Bool.{true};
 ghost use Prim.Native.Nat.{_*_, _≤_};
 ghost use lib.ListN.{length};
 ghost use Rattle.std.specs.Of.Vec.{vec-items, vec-len, vec-cap};
-ghost use Rattle.clauses.specs.Pieces.{rising as rises};
+ghost use Rattle.names.specs.Pieces.{rising as rises};
 
 // At most 256 lists of at most LONGEST items each, kept end to end, and where each ends. The room for all is there from the start.
 #[derive(Drop)]

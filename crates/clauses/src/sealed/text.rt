@@ -1,20 +1,11 @@
 ghost use mathlib.Core.Path.{_≡_};
 ghost use Rattle.refusals.specs.declared.slots.SlotId.{SlotId as Slot};
 ghost use Rattle.clauses.specs.Slots.{Tells};
-ghost use Rattle.clauses.specs.Sealed.{word, stepped, slot-at-start, slots-seen, text-slots, text-constant, Spells};
+ghost use Rattle.clauses.specs.Sealed.{stepped, slot-at-start, slots-seen, text-slots, text-constant, Spells};
 use crate::sealed::scanner::Scanner;
+use names::type_name::is_word;
 use refusals::slots::SlotId;
 use refusals::slots::SlotSet;
-
-// Whether a byte carries a word on.
-fn is_word(byte: u8) -> bool
-    ensures { λ r. ⌜ r ≡ word byte ⌝ }
-{
-    match byte {
-        b'a'..=b'z' | b'A'..=b'Z' | b'0'..=b'9' | b'_' => true,
-        _ => false,
-    }
-}
 
 // The slot that stands at the start of a text.
 fn slot_at_start(text: &[u8]) -> Option<SlotId>

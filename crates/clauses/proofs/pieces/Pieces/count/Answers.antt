@@ -1,7 +1,7 @@
 use mathlib.Core.Path.{sym, _∙_}
 use native.Mathlib.Omega.{arith}
 use Rattle.std.specs.Of.Vec.{vec-items}
-use Rattle.clauses.proofs.Cutting.{length-pieces}
+use Rattle.names.proofs.Pieces.{length-pieces}
 use Rattle.clauses.proofs.pieces.Pieces.count.Needs as need
 
 pub returns : need.returns

@@ -3,7 +3,7 @@ use native.Mathlib.Omega.{arith}
 use Rattle.std.specs.Of.Vec.{vec-items}
 use Rattle.std.proofs.shelf.Maps.{nth-past}
 use Rattle.clauses.specs.Kept.{kept}
-use Rattle.clauses.proofs.Cutting.{length-pieces}
+use Rattle.names.proofs.Pieces.{length-pieces}
 use Rattle.clauses.proofs.pieces.Pieces.get.Needs as need
 
 pub returns-then-n-len : need.returns-then-n-len

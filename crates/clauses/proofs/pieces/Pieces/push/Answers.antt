@@ -5,7 +5,8 @@ use native.Mathlib.Omega.{arith}
 use lib.ListN.{length, length-append}
 use Rattle.std.specs.Of.Vec.{vec-items, vec-len, vec-cap}
 use Rattle.std.proofs.shelf.Parts.{pushed}
-use Rattle.clauses.proofs.Cutting.{length-pieces, put-behind, room-for}
+use Rattle.names.proofs.Pieces.{length-pieces}
+use Rattle.clauses.proofs.Cutting.{put-behind, room-for}
 use Rattle.clauses.proofs.pieces.Pieces.push.Needs as need
 
 pub unwrap-requires : need.unwrap-requires
