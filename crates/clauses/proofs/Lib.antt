@@ -4,5 +4,6 @@ pub mod Scanning
 pub mod Strings
 pub mod Spelling
 pub mod Listing
-pub mod Deciding
 pub mod SealedLaw
+pub mod NodeEquals
+pub mod Rows

@@ -1,7 +1,7 @@
 -- The answers and the law of a book whose clauses are made from their contents.
 use mathlib.Core.Path.{_≡_, refl, sym, _∙_, ap}
 use mathlib.Core.List.{List, [], _∷_, _++_}
-use mathlib.Core.Bool.{Bool, true, false}
+use mathlib.Core.Bool.{Bool, false}
 use Prim.Native.Nat.{ℕ, zero, suc, _<_}
 use native.Mathlib.Omega.{arith}
 use lib.ListN.{length}
@@ -9,10 +9,8 @@ use Rattle.std.specs.Finite.{nth}
 use Rattle.std.specs.Options.{mapped}
 use Rattle.std.specs.declared.option.Option.{Option}
 use Rattle.std.specs.declared.option.Option.the-variants.{Some, None}
-use Rattle.clauses.specs.Book.{Clause, Lawful, Same, at, slots-of, constant-of, Decides, same-clause, listing}
+use Rattle.clauses.specs.Book.{Clause, Lawful, Same, at, slots-of, constant-of, same-clause, listing}
 use Rattle.clauses.specs.Book.{same-content as same-contents}
-use Rattle.std.specs.Orderings.{Decides as Yes}
-use Rattle.std.proofs.shelf.Ways.{same-from-decides}
 
 module _ {C : Type 0} (make : C → Clause C) where
   pub length-listing : (ts : List C) → length (listing make ts) ≡ length ts
@@ -71,15 +69,13 @@ module _ {C : Type 0} (make : C → Clause C) where
       constant-slotless = λ a v h. ap slots-of (at-listing ts a) ∙ slotless g (nth ts a) v (sym (ap constant-of (at-listing ts a)) ∙ h);
     }
 
-    module _ (equal : C → C → Bool) (decides : Decides equal) where
-      -- What `same` answers of two numbers below the count.
-      pub same-told : (ts : List C) (a b : ℕ) (s t : C) (r : Bool) → Some s ≡ nth ts a → Some t ≡ nth ts b → Yes r (s ≡ t)
-          → r ≡ same-clause equal (listing make ts) a b
-      same-told ts a b s t r p q y =
-          same-from-decides r (equal s t) y (decides .only s t, decides .whenever s t)
-          ∙ ap (λ (x : C). equal x t) (sym (keeps s)) ∙ ap (equal (make s .content)) (sym (keeps t))
-          ∙ sym (ap (λ (x : Option (Clause C)). same-contents equal x (Some (make t))) (at-some ts a s p))
-          ∙ sym (ap (same-contents equal (at (listing make ts) a)) (at-some ts b t q))
+    -- What `same` answers of two numbers below the count.
+    pub same-told : (equal : C → C → Bool) (ts : List C) (a b : ℕ) (s t : C) (r : Bool)
+        → Some s ≡ nth ts a → Some t ≡ nth ts b → r ≡ equal s t → r ≡ same-clause equal (listing make ts) a b
+    same-told equal ts a b s t r p q e =
+        e ∙ ap (λ (x : C). equal x t) (sym (keeps s)) ∙ ap (equal (make s .content)) (sym (keeps t))
+        ∙ sym (ap (λ (x : Option (Clause C)). same-contents equal x (Some (make t))) (at-some ts a s p))
+        ∙ sym (ap (same-contents equal (at (listing make ts) a)) (at-some ts b t q))
 
   absent-right : (equal : C → C → Bool) (o : Option (Clause C)) → false ≡ same-contents equal o None
   absent-right equal None = refl

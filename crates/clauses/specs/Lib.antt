@@ -5,4 +5,5 @@ pub mod Slots
 pub mod Sealed
 pub mod Entering
 pub mod SealedBooks
-pub mod Contents
+pub mod Nodes
+pub mod Shape

@@ -5,7 +5,7 @@ use mathlib.Core.Bool.{Bool, true, false, cond, not, _&&_, _||_}
 use Prim.Native.Nat.{ℕ}
 use lib.Dec.{eqb}
 use lib.Chars.{codes}
-use Rattle.clauses.specs.Contents.{same-list}
+use Rattle.std.specs.shelf.Text.{sameBytes}
 use Rattle.std.specs.declared.option.Option.{Option}
 use Rattle.std.specs.declared.option.Option.the-variants.{Some, None}
 use Rattle.names.specs.TypeName.{word}
@@ -83,7 +83,7 @@ text-slots text = slot-set (scanned Principal Plain text) (scanned Resource Plai
 
 -- The constant of bytes exactly `true` or `false`.
 abbrev pub text-constant : List ℕ → Option Bool
-text-constant text = cond (same-list eqb (codes "true") text) (Some true) (cond (same-list eqb (codes "false") text) (Some false) None)
+text-constant text = cond (sameBytes (codes "true") text) (Some true) (cond (sameBytes (codes "false") text) (Some false) None)
 
 -- A text as a clause.
 abbrev pub text-clause : List ℕ → Clause (List ℕ)

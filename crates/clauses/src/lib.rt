@@ -1,3 +1,4 @@
 pub mod book;
 mod pieces;
 pub mod sealed;
+pub mod tree;

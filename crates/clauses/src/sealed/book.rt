@@ -2,8 +2,7 @@ ghost use mathlib.Core.Path.{_≡_};
 ghost use mathlib.Core.List.{List, []};
 ghost use Prim.Native.Nat.{ℕ};
 ghost use Rattle.std.specs.Vec.{made};
-ghost use lib.Dec.{eqb};
-ghost use Rattle.clauses.specs.Contents.{same-list};
+ghost use Rattle.std.specs.shelf.Text.{sameBytes};
 ghost use Rattle.clauses.specs.Entering.{text-answer, with-entered};
 ghost use Rattle.clauses.specs.Sealed.{text-clause};
 ghost use Rattle.clauses.specs.SealedBooks.{texts as texts-of, sealed-clauses};
@@ -52,7 +51,7 @@ impl SealedBook {
 pub impl ClauseBook for SealedBook as SealedClauses {
     ghost content = { List ℕ };
 
-    ghost equal = { same-list eqb };
+    ghost equal = { sameBytes };
 
     ghost listed = { sealed-clauses };
 
