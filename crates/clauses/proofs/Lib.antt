@@ -7,3 +7,4 @@ pub mod Listing
 pub mod SealedLaw
 pub mod NodeEquals
 pub mod Rows
+pub mod Mentioned

@@ -1,2 +1,3 @@
+pub mod clause;
 pub mod node;
 pub mod shape;
