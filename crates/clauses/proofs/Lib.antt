@@ -8,3 +8,4 @@ pub mod SealedLaw
 pub mod NodeEquals
 pub mod Rows
 pub mod Mentioned
+pub mod Checks

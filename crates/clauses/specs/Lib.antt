@@ -7,3 +7,5 @@ pub mod Entering
 pub mod SealedBooks
 pub mod Nodes
 pub mod Shape
+pub mod NameChecks
+pub mod TreeEntering

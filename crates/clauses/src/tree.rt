@@ -1,3 +1,4 @@
 pub mod clause;
+mod names;
 pub mod node;
 pub mod shape;
