@@ -9,3 +9,5 @@ pub mod NodeEquals
 pub mod Rows
 pub mod Mentioned
 pub mod Checks
+pub mod TreeLaw
+pub mod Entered

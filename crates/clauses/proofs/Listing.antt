@@ -9,6 +9,10 @@ use Rattle.std.specs.Finite.{nth}
 use Rattle.std.specs.Options.{mapped}
 use Rattle.std.specs.declared.option.Option.{Option}
 use Rattle.std.specs.declared.option.Option.the-variants.{Some, None}
+use Rattle.std.specs.declared.result.Result.{Result}
+use Rattle.std.specs.declared.result.Result.the-variants.{Ok, Err}
+use Rattle.refusals.specs.declared.refusal.Refusal.{Refusal}
+use Rattle.clauses.specs.Entering.{with-entered}
 use Rattle.clauses.specs.Book.{Clause, Lawful, Same, at, slots-of, constant-of, same-clause, listing}
 use Rattle.clauses.specs.Book.{same-content as same-contents}
 
@@ -17,7 +21,7 @@ module _ {C : Type 0} (make : C → Clause C) where
   length-listing [] = refl
   length-listing (t ∷ ts) = ap suc (length-listing ts)
 
-  pub listing-push : (ts : List C) (t : C) → listing make (ts ++ (t ∷ [])) ≡ listing make ts ++ (make t ∷ [])
+  listing-push : (ts : List C) (t : C) → listing make (ts ++ (t ∷ [])) ≡ listing make ts ++ (make t ∷ [])
   listing-push [] t = refl
   listing-push (u ∷ ts) t = ap (λ (l : List (Clause C)). make u ∷ l) (listing-push ts t)
 
@@ -87,3 +91,8 @@ module _ {C : Type 0} (make : C → Clause C) where
 
   pub right-absent : (equal : C → C → Bool) (ts : List C) (a b : ℕ) → None ≡ nth ts b → false ≡ same-clause equal (listing make ts) a b
   right-absent equal ts a b e = absent-right equal (at (listing make ts) a) ∙ sym (ap (same-contents equal (at (listing make ts) a)) (at-none ts b e))
+
+  -- The clauses after an answer are those of the contents after it.
+  pub listing-entered : (r : Result ℕ Refusal) (ts : List C) (t : C) → listing make (with-entered r ts t) ≡ with-entered r (listing make ts) (make t)
+  listing-entered (Ok n) ts t = listing-push ts t
+  listing-entered (Err refusal) ts t = refl

@@ -9,3 +9,4 @@ pub mod Nodes
 pub mod Shape
 pub mod NameChecks
 pub mod TreeEntering
+pub mod TreeBooks

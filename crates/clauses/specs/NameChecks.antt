@@ -1,7 +1,7 @@
 -- Whether names are known, and whether they name types.
 use mathlib.Core.Path.{_≡_}
 use mathlib.Core.List.{List, [], _∷_, _++_}
-use mathlib.Core.Bool.{cond}
+use mathlib.Core.Bool.{Bool, cond}
 use Prim.Native.Nat.{ℕ, _<_}
 use lib.ListN.{length, getD}
 use lib.Dec.{ltb}
@@ -13,6 +13,10 @@ use Rattle.refusals.specs.declared.refusal.Refusal.the-variants.{UnknownName, B
 use Rattle.names.specs.declared.type_name.Scan.the-variants.{Start}
 use Rattle.names.specs.Scan.{scanned, accepts}
 use Rattle.names.specs.TypeName.{TypeName}
+
+-- Passed where the test says yes, else refused.
+abbrev pub passed-if : Bool → Refusal → Result (Unit {0}) Refusal
+passed-if told refusal = cond told (Ok tt) (Err refusal)
 
 -- One test, and then another.
 abbrev pub and-then : {X : Type 0} → Result (Unit {0}) Refusal → Result X Refusal → Result X Refusal
@@ -26,11 +30,11 @@ in-turn test (x ∷ xs) = and-then (test x) (in-turn test xs)
 
 -- Refusal 1 for a number that is not below the count.
 abbrev pub name-check : ℕ → ℕ → Result (Unit {0}) Refusal
-name-check count n = cond (ltb n count) (Ok tt) (Err (UnknownName n))
+name-check count n = passed-if (ltb n count) (UnknownName n)
 
 -- Refusal 5 for a number whose text is not a type name.
 abbrev pub type-check : List (List ℕ) → ℕ → Result (Unit {0}) Refusal
-type-check texts t = cond (accepts (scanned Start (getD texts t []))) (Ok tt) (Err (BadTypeName t))
+type-check texts t = passed-if (accepts (scanned Start (getD texts t []))) (BadTypeName t)
 
 -- The name is one of the book's.
 abbrev pub Known : List (List ℕ) → ℕ → Type 0

@@ -1,3 +1,5 @@
+pub mod book;
+mod check;
 pub mod clause;
 mod names;
 pub mod node;

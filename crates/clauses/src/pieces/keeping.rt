@@ -9,8 +9,10 @@ ghost use Rattle.std.specs.Of.Vec.{vec-items, vec-len};
 ghost use Rattle.std.specs.Vec.{made};
 ghost use Rattle.std.specs.Holes.{between};
 ghost use Rattle.std.specs.declared.option.Option.the-variants.{Some};
+ghost use Rattle.clauses.specs.Entering.{next-number, with-entered};
 ghost use Rattle.clauses.specs.Kept.{kept};
 use crate::pieces::Pieces;
+use refusals::refusal::Refusal;
 use std::alloc::AllocError;
 use std::alloc::Global;
 
@@ -58,12 +60,26 @@ impl<T: Copy, const LONGEST: usize> Pieces<T, LONGEST> {
     }
 
     // Puts a piece behind the last one, into the room that was reserved.
-    pub fn push(&mut self, piece: &[T])
+    fn push(&mut self, piece: &[T])
         requires { ⌜ length (kept (now self)) < 256 ⌝ ∗ ⌜ length (now piece) ≤ LONGEST ⌝ }
         ensures { λ _. ⌜ kept (now (self .exit)) ≡ kept (now (self .entry)) ++ (now (piece .entry) ∷ []) ⌝ }
     {
         self.items.extend_from_slice(piece).unwrap();
         let end = self.items.len();
         self.ends.push_reserved(end);
+    }
+
+    // Enters a piece under the next number; refusal 4 where all 256 are taken.
+    pub fn enter(&mut self, piece: &[T]) -> Result<u16, Refusal>
+        requires { ⌜ length (now piece) ≤ LONGEST ⌝ }
+        ensures answer { λ r. ⌜ r ≡ next-number (kept (now (self .entry))) ⌝ }
+        ensures after { λ r. ⌜ kept (now (self .exit)) ≡ with-entered r (kept (now (self .entry))) (now (piece .entry)) ⌝ }
+    {
+        let count = self.count();
+        if count >= 256 {
+            return Err(Refusal::BookFull);
+        }
+        self.push(piece);
+        Ok(count as u16)
     }
 }

@@ -39,12 +39,7 @@ impl SealedBook {
         if text.len() > 512 {
             return Err(Refusal::TooLong(text.len()));
         }
-        let count = self.texts.count();
-        if count >= 256 {
-            return Err(Refusal::BookFull);
-        }
-        self.texts.push(text);
-        Ok(count as u16)
+        self.texts.enter(text)
     }
 }
 
