@@ -1,7 +1,7 @@
 -- The answers and the law of a book whose clauses are made from their contents.
 use mathlib.Core.Path.{_≡_, refl, sym, _∙_, ap}
 use mathlib.Core.List.{List, [], _∷_, _++_}
-use mathlib.Core.Bool.{Bool, false}
+use mathlib.Core.Bool.{Bool}
 use Prim.Native.Nat.{ℕ, zero, suc, _<_}
 use native.Mathlib.Omega.{arith}
 use lib.ListN.{length}
@@ -13,8 +13,7 @@ use Rattle.std.specs.declared.result.Result.{Result}
 use Rattle.std.specs.declared.result.Result.the-variants.{Ok, Err}
 use Rattle.refusals.specs.declared.refusal.Refusal.{Refusal}
 use Rattle.clauses.specs.Entering.{with-entered}
-use Rattle.clauses.specs.Book.{Clause, Lawful, Same, at, slots-of, constant-of, same-clause, listing}
-use Rattle.clauses.specs.Book.{same-content as same-contents}
+use Rattle.clauses.specs.Book.{Clause, Lawful, Same, at, slots-of, constant-of, listing}
 
 module _ {C : Type 0} (make : C → Clause C) where
   pub length-listing : (ts : List C) → length (listing make ts) ≡ length ts
@@ -31,11 +30,11 @@ module _ {C : Type 0} (make : C → Clause C) where
   at-listing (t ∷ ts) zero = refl
   at-listing (t ∷ ts) (suc n) = at-listing ts n
 
-  pub at-some : (ts : List C) (n : ℕ) (t : C) → Some t ≡ nth ts n → at (listing make ts) n ≡ Some (make t)
-  at-some ts n t e = at-listing ts n ∙ ap (mapped make) (sym e)
-
-  pub at-none : (ts : List C) (n : ℕ) → None ≡ nth ts n → at (listing make ts) n ≡ None
-  at-none ts n e = at-listing ts n ∙ ap (mapped make) (sym e)
+  -- The same, for a content that is lent.
+  pub at-lent : {Y : Type 0} (read : Y → C) (ts : List C) (n : ℕ) (lent : Option Y) → mapped read lent ≡ nth ts n
+      → at (listing make ts) n ≡ mapped (λ (y : Y). make (read y)) lent
+  at-lent read ts n None e = at-listing ts n ∙ sym (ap (mapped make) e)
+  at-lent read ts n (Some y) e = at-listing ts n ∙ sym (ap (mapped make) e)
 
   -- Made from equal contents, clauses are equal.
   module _ (keeps : (t : C) → make t .content ≡ t) where
@@ -72,25 +71,6 @@ module _ {C : Type 0} (make : C → Clause C) where
       same-constant = λ a b s. ap constant-of (alike ts a b s);
       constant-slotless = λ a v h. ap slots-of (at-listing ts a) ∙ slotless g (nth ts a) v (sym (ap constant-of (at-listing ts a)) ∙ h);
     }
-
-    -- What `same` answers of two numbers below the count.
-    pub same-told : (equal : C → C → Bool) (ts : List C) (a b : ℕ) (s t : C) (r : Bool)
-        → Some s ≡ nth ts a → Some t ≡ nth ts b → r ≡ equal s t → r ≡ same-clause equal (listing make ts) a b
-    same-told equal ts a b s t r p q e =
-        e ∙ ap (λ (x : C). equal x t) (sym (keeps s)) ∙ ap (equal (make s .content)) (sym (keeps t))
-        ∙ sym (ap (λ (x : Option (Clause C)). same-contents equal x (Some (make t))) (at-some ts a s p))
-        ∙ sym (ap (same-contents equal (at (listing make ts) a)) (at-some ts b t q))
-
-  absent-right : (equal : C → C → Bool) (o : Option (Clause C)) → false ≡ same-contents equal o None
-  absent-right equal None = refl
-  absent-right equal (Some c) = refl
-
-  -- And where one of them is not below it.
-  pub left-absent : (equal : C → C → Bool) (ts : List C) (a b : ℕ) → None ≡ nth ts a → false ≡ same-clause equal (listing make ts) a b
-  left-absent equal ts a b e = sym (ap (λ (x : Option (Clause C)). same-contents equal x (at (listing make ts) b)) (at-none ts a e))
-
-  pub right-absent : (equal : C → C → Bool) (ts : List C) (a b : ℕ) → None ≡ nth ts b → false ≡ same-clause equal (listing make ts) a b
-  right-absent equal ts a b e = absent-right equal (at (listing make ts) a) ∙ sym (ap (same-contents equal (at (listing make ts) a)) (at-none ts b e))
 
   -- The clauses after an answer are those of the contents after it.
   pub listing-entered : (r : Result ℕ Refusal) (ts : List C) (t : C) → listing make (with-entered r ts t) ≡ with-entered r (listing make ts) (make t)

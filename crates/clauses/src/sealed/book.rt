@@ -1,7 +1,10 @@
 ghost use mathlib.Core.Path.{_≡_};
 ghost use mathlib.Core.List.{List, []};
 ghost use Prim.Native.Nat.{ℕ};
+ghost use denote.Ref.{now as target};
+ghost use Rattle.std.specs.Options.{mapped};
 ghost use Rattle.std.specs.Vec.{made};
+ghost use Rattle.clauses.specs.Book.{at};
 ghost use Rattle.std.specs.shelf.Text.{sameBytes};
 ghost use Rattle.clauses.specs.Entering.{text-answer, with-entered};
 ghost use Rattle.clauses.specs.Sealed.{text-clause};
@@ -43,6 +46,22 @@ impl SealedBook {
     }
 }
 
+impl SealedBook {
+    // The text of a number, which its clause is made from.
+    fn text(&self, n: u16) -> Option<&[u8]>
+        ensures { λ r. ⌜ at (sealed-clauses (now (self .entry))) n ≡ mapped (λ text. text-clause (target text)) r ⌝ }
+    {
+        self.texts.get(n as usize)
+    }
+}
+
+// Whether two texts are equal.
+fn same_text(a: &[u8], b: &[u8]) -> bool
+    ensures { λ r. ⌜ r ≡ sameBytes (now (a .entry)) (now (b .entry)) ⌝ }
+{
+    a == b
+}
+
 pub impl ClauseBook for SealedBook as SealedClauses {
     ghost content = { List ℕ };
 
@@ -55,24 +74,24 @@ pub impl ClauseBook for SealedBook as SealedClauses {
     }
 
     fn slots(&self, n: u16) -> SlotSet {
-        let Some(text) = self.texts.get(n as usize) else {
+        let Some(text) = self.text(n) else {
             return SlotSet { bits: 0 };
         };
         slots_of_text(text)
     }
 
     fn constant(&self, n: u16) -> Option<bool> {
-        let text = self.texts.get(n as usize)?;
+        let text = self.text(n)?;
         constant_of_text(text)
     }
 
     fn same(&self, a: u16, b: u16) -> bool {
-        let Some(left) = self.texts.get(a as usize) else {
+        let Some(left) = self.text(a) else {
             return false;
         };
-        let Some(right) = self.texts.get(b as usize) else {
+        let Some(right) = self.text(b) else {
             return false;
         };
-        left == right
+        same_text(left, right)
     }
 }

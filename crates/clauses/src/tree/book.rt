@@ -1,6 +1,9 @@
 ghost use mathlib.Core.Path.{_≡_};
 ghost use mathlib.Core.List.{List, []};
+ghost use denote.Ref.{now as target};
+ghost use Rattle.std.specs.Options.{mapped};
 ghost use Rattle.std.specs.Vec.{made};
+ghost use Rattle.clauses.specs.Book.{at};
 ghost use Rattle.names.specs.Book.{texts as texts-of};
 ghost use Rattle.clauses.specs.declared.tree.node.Node.{Node as AnyNode};
 ghost use Rattle.clauses.specs.Entering.{with-entered};
@@ -47,6 +50,22 @@ impl TreeBook {
     }
 }
 
+impl TreeBook {
+    // The nodes of a number, which its clause is made from.
+    fn nodes(&self, n: u16) -> Option<&[Node]>
+        ensures { λ r. ⌜ at (tree-clauses (now (self .entry))) n ≡ mapped (λ nodes. tree-clause (target nodes)) r ⌝ }
+    {
+        self.trees.get(n as usize)
+    }
+}
+
+// Whether two lists of nodes are equal.
+fn same_nodes(a: &[Node], b: &[Node]) -> bool
+    ensures { λ r. ⌜ r ≡ same-nodes (now (a .entry)) (now (b .entry)) ⌝ }
+{
+    a == b
+}
+
 pub impl ClauseBook for TreeBook as TreeClauses {
     ghost content = { List AnyNode };
 
@@ -59,24 +78,24 @@ pub impl ClauseBook for TreeBook as TreeClauses {
     }
 
     fn slots(&self, n: u16) -> SlotSet {
-        let Some(nodes) = self.trees.get(n as usize) else {
+        let Some(nodes) = self.nodes(n) else {
             return SlotSet { bits: 0 };
         };
         slots_of_tree(nodes)
     }
 
     fn constant(&self, n: u16) -> Option<bool> {
-        let nodes = self.trees.get(n as usize)?;
+        let nodes = self.nodes(n)?;
         constant_of_tree(nodes)
     }
 
     fn same(&self, a: u16, b: u16) -> bool {
-        let Some(left) = self.trees.get(a as usize) else {
+        let Some(left) = self.nodes(a) else {
             return false;
         };
-        let Some(right) = self.trees.get(b as usize) else {
+        let Some(right) = self.nodes(b) else {
             return false;
         };
-        left == right
+        same_nodes(left, right)
     }
 }
