@@ -1,1 +1,5 @@
 pub mod book;
+pub mod naming;
+mod pieces;
+pub mod sealed;
+pub mod tree;
