@@ -1,2 +1,5 @@
 pub mod Padding
 pub mod Binding
+pub mod Scopes
+pub mod Equality
+pub mod Equal
