@@ -3,3 +3,4 @@ pub mod Binding
 pub mod Scopes
 pub mod Equality
 pub mod Equal
+pub mod Known

@@ -3,6 +3,7 @@ pub mod bound;
 pub mod constraint;
 pub mod equality;
 pub mod fixed;
+pub mod known;
 pub mod list;
 pub mod template;
 pub mod values;
