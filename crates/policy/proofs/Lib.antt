@@ -2,3 +2,5 @@ pub mod Lists
 pub mod Records
 pub mod Deciding
 pub mod Testing
+pub mod Bits
+pub mod Exact

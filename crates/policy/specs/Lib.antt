@@ -4,3 +4,5 @@ pub mod Scopes
 pub mod Equality
 pub mod Equal
 pub mod Known
+pub mod Slots
+pub mod Arity

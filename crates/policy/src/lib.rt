@@ -1,9 +1,11 @@
 pub mod action;
+pub mod binding;
 pub mod bound;
 pub mod constraint;
 pub mod equality;
 pub mod fixed;
 pub mod known;
 pub mod list;
+pub mod slot_set;
 pub mod template;
 pub mod values;
