@@ -4,3 +4,5 @@ pub mod Deciding
 pub mod Testing
 pub mod Bits
 pub mod Exact
+pub mod Reached
+pub mod Filled

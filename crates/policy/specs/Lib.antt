@@ -6,3 +6,7 @@ pub mod Equal
 pub mod Known
 pub mod Slots
 pub mod Arity
+pub mod Hierarchy
+pub mod Value
+pub mod Meaning
+pub mod Filling

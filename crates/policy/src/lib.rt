@@ -3,6 +3,7 @@ pub mod binding;
 pub mod bound;
 pub mod constraint;
 pub mod equality;
+pub mod fill;
 pub mod fixed;
 pub mod known;
 pub mod list;
