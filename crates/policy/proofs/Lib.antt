@@ -6,3 +6,5 @@ pub mod Bits
 pub mod Exact
 pub mod Reached
 pub mod Filled
+pub mod Ends
+pub mod Joined

@@ -10,3 +10,5 @@ pub mod Hierarchy
 pub mod Value
 pub mod Meaning
 pub mod Filling
+pub mod Condition
+pub mod Nodes

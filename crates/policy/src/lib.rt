@@ -7,6 +7,8 @@ pub mod fill;
 pub mod fixed;
 pub mod known;
 pub mod list;
+pub mod node;
+pub mod nodes;
 pub mod slot_set;
 pub mod template;
 pub mod values;
