@@ -8,3 +8,6 @@ pub mod Reached
 pub mod Filled
 pub mod Ends
 pub mod Joined
+pub mod Steps
+pub mod Trees
+pub mod Propers

@@ -1,6 +1,7 @@
 pub mod action;
 pub mod binding;
 pub mod bound;
+pub mod condition;
 pub mod constraint;
 pub mod equality;
 pub mod fill;
