@@ -15,7 +15,7 @@ use Rattle.policy.specs.Nodes.{Folds}
 use Rattle.policy.proofs.Ends.{snoc}
 
 -- A constant takes no operands.
-takes-none : (n : ConditionNode) (x : Bool) → constant n ≡ Some x → (arity n ≡ 0) × (n ≡ node.Bool x)
+pub takes-none : (n : ConditionNode) (x : Bool) → constant n ≡ Some x → (arity n ≡ 0) × (n ≡ node.Bool x)
 takes-none (node.Bool b) x h = (refl, cc)
 takes-none node.Principal x h = (refl, cc)
 takes-none node.Action x h = (refl, cc)
@@ -84,7 +84,7 @@ module _ (ns f : List ConditionNode) (a b : Tree ConditionNode) (pa : Proper ari
       ∙ append-assoc f (written a ++ written b) (node.And ∷ [])
       ∙ ap (λ (o : Option Bool). f ++ written (folded o a b)) (sym n ∙ folds-trees)
 
-some-both : (x y : Option Bool) (c : Bool) → Some c ≡ both x y → (p : Bool) × (q : Bool) × (x ≡ Some p) × (y ≡ Some q)
+pub some-both : (x y : Option Bool) (c : Bool) → Some c ≡ both x y → (p : Bool) × (q : Bool) × (x ≡ Some p) × (y ≡ Some q)
 some-both None y c h = absurd (let z : _≡_ {A = ℕ} 0 1 = cc in omega arith)
 some-both (Some p) None c h = absurd (let z : _≡_ {A = ℕ} 0 1 = cc in omega arith)
 some-both (Some p) (Some q) c h = (p, q, refl, refl)

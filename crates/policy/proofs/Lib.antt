@@ -11,3 +11,5 @@ pub mod Joined
 pub mod Steps
 pub mod Trees
 pub mod Propers
+pub mod Worth
+pub mod Worded

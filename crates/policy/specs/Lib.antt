@@ -12,3 +12,5 @@ pub mod Meaning
 pub mod Filling
 pub mod Condition
 pub mod Nodes
+pub mod Answer
+pub mod Evaluation

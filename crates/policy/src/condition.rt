@@ -3,6 +3,7 @@ ghost use mathlib.Core.List.{List, [], _∷_, _++_, map};
 ghost use Prim.Native.Nat.{ℕ, _+_, _≤_, _<_};
 ghost use lib.ListN.{length};
 ghost use Rattle.clauses.specs.Tree.{written};
+ghost use Rattle.policy.specs.Answer.{fitted, buffer-after};
 ghost use Rattle.policy.specs.Condition.{reference-node, scope-tree, action-tree, clause-node as node-of-clause, condition-tree};
 ghost use Rattle.policy.specs.Nodes.{nodes-of, Wrote};
 ghost use Rattle.policy.specs.declared.node.ConditionNode.the-variants.{Entity as Named};
@@ -14,6 +15,7 @@ use crate::nodes::NodeList;
 use crate::template::Template;
 use clauses::book::ClauseBook;
 use names::entity::EntityUID;
+use refusals::refusal::Refusal;
 use refusals::slots::SlotId;
 
 fn reference(slot: ConditionNode, r: EntityReference) -> ConditionNode
@@ -126,4 +128,17 @@ fn written_condition<B: ClauseBook>(t: &Template, clauses: &B) -> NodeList
     list.and();
     list.and();
     list
+}
+
+// The nodes into the caller's buffer, where there is room for all.
+fn copy_out(nodes: &[ConditionNode], buffer: &mut [ConditionNode]) -> Result<usize, Refusal>
+    ensures answer { λ r. ⌜ r ≡ fitted (now (nodes .entry)) (length (now (buffer .entry))) ⌝ }
+    ensures buffer { λ r. ⌜ now (buffer .exit) ≡ buffer-after (now (nodes .entry)) (now (buffer .entry)) r ⌝ }
+{
+    let needed = nodes.len();
+    if buffer.len() < needed {
+        return Err(Refusal::ShortBuffer(needed));
+    }
+    buffer[0..needed].copy_from_slice(nodes);
+    Ok(needed)
 }
