@@ -15,3 +15,4 @@ pub mod Nodes
 pub mod Mentions
 pub mod Answer
 pub mod Evaluation
+pub mod Calls
