@@ -9,4 +9,6 @@ pub mod Accepted
 pub mod Added
 pub mod Changes
 pub mod Removed
+pub mod Listings
+pub mod Validates
 pub mod Sets

@@ -7,8 +7,10 @@ use crate::tables::Policies;
 use crate::tables::Templates;
 
 pub mod links;
+pub mod listing;
 pub(crate) mod reads;
 pub mod removals;
+pub mod validate;
 
 // Templates, with the bodies of the static policies among them; all policies, links and static ones; and the members
 // of the reverse sets, each a policy under its template.
