@@ -1,7 +1,9 @@
 ghost use mathlib.Core.Path.{_≡_};
-ghost use mathlib.Core.Bool.{Bool};
 ghost use mathlib.Core.List.{[], _∷_};
+ghost use Prim.Native.Nat.{_<_};
+ghost use lib.ListN.{length};
 ghost use Rattle.std.specs.Options.{Cases as BySome};
+ghost use Rattle.std.specs.shelf.Text.{sameBytes};
 ghost use Rattle.script.specs.Words.{separates, words};
 ghost use Rattle.script.specs.Front.{front};
 ghost use Rattle.script.specs.Cursor.{to-come};
@@ -28,6 +30,15 @@ fn run_length(line: &[u8], separators: bool) -> usize
     line.len()
 }
 
+// The first word of a line, empty where the line has none, and what follows it.
+fn first_word(line: &[u8]) -> (&[u8], &[u8])
+    ensures some { λ r. ⌜ (0 < length (now (r .0)) → words (now (line .entry)) ≡ now (r .0) ∷ words (now (r .1))) ⌝ }
+    ensures none { λ r. ⌜ (length (now (r .0)) ≡ 0 → (words (now (line .entry)) ≡ []) × (words (now (r .1)) ≡ [])) ⌝ }
+{
+    let (_, line) = line.split_at(run_length(line, true));
+    line.split_at(run_length(line, false))
+}
+
 // The words of a line that are still to come.
 #[derive(Drop)]
 pub struct Words<'a> {
@@ -46,10 +57,15 @@ impl<'a> Words<'a> {
     pub fn next(&mut self) -> Option<&'a [u8]>
         ensures { λ r. ⌜ BySome r ((to-come (now (self .entry)) ≡ []) × (to-come (now (self .exit)) ≡ [])) (λ word. to-come (now (self .entry)) ≡ now word ∷ to-come (now (self .exit))) ⌝ }
     {
-        let line = self.rest;
-        let (_, line) = line.split_at(run_length(line, true));
-        let (word, rest) = line.split_at(run_length(line, false));
+        let (word, rest) = first_word(self.rest);
         self.rest = rest;
         if word.is_empty() { None } else { Some(word) }
     }
+}
+
+// Whether a word is spelled so, byte by byte.
+pub fn same_word(word: &[u8], spelling: &[u8]) -> bool
+    ensures { λ r. ⌜ r ≡ sameBytes (now (word .entry)) (now (spelling .entry)) ⌝ }
+{
+    word == spelling
 }

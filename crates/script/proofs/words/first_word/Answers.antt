@@ -4,11 +4,10 @@ use mathlib.Core.Bool.{true, false}
 use Prim.Native.Nat.{ℕ, _<_, _≤_}
 use native.Mathlib.Omega.{arith}
 use lib.ListN.{length, take, drop}
-use borrow.Author.Tests.{true-eqb, false-eqb}
 use Rattle.script.specs.Words.{words}
 use Rattle.script.specs.Front.{front}
 use Rattle.script.proofs.FirstWord.{front-within, words-skip, front-skip, first-word, no-word}
-use Rattle.script.proofs.words.Words.next.Needs as need
+use Rattle.script.proofs.words.first_word.Needs as need
 
 -- A line cut behind the separators at its front, and again behind the bytes up to the next one.
 record Cut (line middle word rest : List ℕ) : Type 0 where
@@ -37,20 +36,13 @@ none line middle word rest k h =
     )
 
 pub split-at-requires : need.split-at-requires
-split-at-requires c κs = omega (arith, c .run-length .ensures, front-within true (c .args .self .now .rest .now))
+split-at-requires c κs = omega (arith, c .run-length .ensures, front-within true (c .args .line .now))
 
 pub split-at-requires-2 : need.split-at-requires-2
 split-at-requires-2 c κs = omega (arith, c .run-length-2 .ensures, front-within false (c .split-at .result .1 .now))
 
-pub returns-then-is-empty : need.returns-then-is-empty
-returns-then-is-empty c =
-    none _ _ _ _
-    (cut _ _ _ _ _ _ (c .run-length .ensures) (c .run-length-2 .ensures) (c .split-at .ensures .back) (c .split-at-2 .ensures .front) (c .split-at-2 .ensures .back))
-    (true-eqb _ 0 (c .if-is-empty .ensures tt))
-
-pub returns-else-is-empty : need.returns-else-is-empty
-returns-else-is-empty c =
-    let n = false-eqb (length (c .split-at-2 .result .0 .now)) 0 (c .if-is-empty .ensures tt) in
-    some _ _ _ _
-    (cut _ _ _ _ _ _ (c .run-length .ensures) (c .run-length-2 .ensures) (c .split-at .ensures .back) (c .split-at-2 .ensures .front) (c .split-at-2 .ensures .back))
-    (omega arith)
+pub returns : need.returns
+returns c =
+    let k = cut (c .args .line .now) (c .split-at .result .1 .now) (c .split-at-2 .result .0 .now) (c .split-at-2 .result .1 .now) (c .run-length .result) (c .run-length-2 .result)
+    (c .run-length .ensures) (c .run-length-2 .ensures) (c .split-at .ensures .back) (c .split-at-2 .ensures .front) (c .split-at-2 .ensures .back) in
+    record { some = some _ _ _ _ k; none = none _ _ _ _ k }
