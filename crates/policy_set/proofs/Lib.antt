@@ -1,0 +1,3 @@
+pub mod Tables
+mod Places
+mod Shifts

@@ -1,0 +1,123 @@
+-- What a search for a key finds, and what removing and putting at the place found leaves.
+use mathlib.Core.Path.{_≡_, refl, sym, ap, _∙_}
+use mathlib.Core.Logic.{⊎-elim}
+use mathlib.Core.List.{List, [], _∷_, _++_}
+use mathlib.Core.Bool.{Bool, true, false, cond}
+use Prim.Native.Nat.{ℕ, suc, _+_, _-_, _≤_, _<_}
+use native.Mathlib.Omega.{arith}
+use native.Mathlib.Nat.{sub-zero}
+use lib.ListN.{length, take, drop, getD}
+use lib.Dec.{eqb}
+use Rattle.std.specs.declared.option.Option.{Option}
+use Rattle.std.specs.declared.option.Option.the-variants.{Some, None}
+use Rattle.std.proofs.shelf.Tests.{eq-eqb, ne-eqb, cond-true, cond-false, cases-bool}
+use Rattle.std.proofs.shelf.Lists.{at-drop-more, length-take-le, getD-take}
+use Rattle.policy_set.specs.Tables.{position-from, position, without, erase, lookup, put-last}
+use Rattle.policy_set.proofs.Tables.{no-some}
+
+-- one turn of the search: the row at i has the key, or it has not
+pub found-here : {X : Type 0} (key : X → ℕ) (k i : ℕ) (xs : List X) (x : X) → i < length xs → x ≡ getD xs i x
+    → key x ≡ k → position-from key k i (drop i xs) ≡ Some i
+found-here key k i xs x h e t =
+    at-drop-more (position-from key k i) xs i x h ∙ cond-true _ _ _ (eq-eqb _ _ (ap key (sym e) ∙ t))
+
+pub passed-over : {X : Type 0} (key : X → ℕ) (k i : ℕ) (xs : List X) (x : X) → i < length xs → x ≡ getD xs i x
+    → (key x ≡ k → ⊥) → position-from key k (i + 1) (drop (i + 1) xs) ≡ position-from key k i (drop i xs)
+passed-over key k i xs x h e t =
+    sym (at-drop-more (position-from key k i) xs i x h ∙ cond-false _ _ _ (ne-eqb _ _ (λ q. t (ap key e ∙ q))))
+
+-- what a place found says
+record Hit {X : Type 0} (key : X → ℕ) (k n : ℕ) (xs : List X) (i : ℕ) : Type 0 where
+  pub low : n ≤ i
+  pub high : i - n < length xs
+  pub erased : erase key k xs ≡ without (i - n) xs
+  pub row : (d : X) → lookup key k xs ≡ Some (getD xs (i - n) d)
+
+hit-from : {X : Type 0} (key : X → ℕ) (k n : ℕ) (xs : List X) (i : ℕ) → position-from key k n xs ≡ Some i → Hit key k n xs i
+hit-from key k n [] i e = no-some i e
+hit-from key k n (x ∷ xs) i e = ⊎-elim
+    (λ t. let a = cond-true (eqb (key x) k) (Some n) (position-from key k (n + 1) xs) t in
+    let q : n ≡ i = cc in
+    let z : i - n ≡ 0 = omega arith in
+    record {
+      low = omega arith;
+      high = omega arith;
+      erased = cond-true (eqb (key x) k) xs (x ∷ erase key k xs) t ∙ sym (ap (λ m. without m (x ∷ xs)) z);
+      row = λ d. cond-true (eqb (key x) k) (Some x) (lookup key k xs) t ∙ sym (ap (λ m. Some (getD (x ∷ xs) m d)) z);
+    })
+    (λ t. let h = hit-from key k (n + 1) xs i (sym (cond-false (eqb (key x) k) (Some n) (position-from key k (n + 1) xs) t) ∙ e) in
+    let m = i - (n + 1) in
+    let l : n + 1 ≤ i = h .low in
+    let z : i - n ≡ suc m = omega arith in
+    let w : suc m + 1 ≡ suc (m + 1) = omega arith in
+    record {
+      low = omega arith;
+      high = omega (arith, h .high);
+      erased = cond-false (eqb (key x) k) xs (x ∷ erase key k xs) t
+          ∙ (ap (λ ys. x ∷ ys) (h .erased)
+          ∙ (sym (ap (λ j. x ∷ (take m xs ++ drop j (x ∷ xs))) w) ∙ sym (ap (λ j. without j (x ∷ xs)) z)));
+      row = λ d. cond-false (eqb (key x) k) (Some x) (lookup key k xs) t ∙ (h .row d ∙ sym (ap (λ j. Some (getD (x ∷ xs) j d)) z));
+    })
+    (cases-bool (eqb (key x) k))
+
+pub record Found {X : Type 0} (key : X → ℕ) (k : ℕ) (xs : List X) (i : ℕ) : Type 0 where
+  pub within : i < length xs
+  pub erased : erase key k xs ≡ without i xs
+  pub row : (d : X) → lookup key k xs ≡ Some (getD xs i d)
+
+pub found-at : {X : Type 0} (key : X → ℕ) (k : ℕ) (xs : List X) (i : ℕ) → position key k xs ≡ Some i → Found key k xs i
+found-at key k xs i e =
+    let h = hit-from key k 0 xs i e in
+    record {
+      within = omega (arith, h .high);
+      erased = h .erased ∙ ap (λ m. without m xs) (sub-zero i);
+      row = λ d. h .row d ∙ ap (λ m. Some (getD xs m d)) (sub-zero i);
+    }
+
+-- what a search that finds nothing says
+pub record Missed {X : Type 0} (key : X → ℕ) (k : ℕ) (xs : List X) : Type 0 where
+  pub erased : erase key k xs ≡ xs
+  pub none : lookup key k xs ≡ None
+
+pub missed-from : {X : Type 0} (key : X → ℕ) (k n : ℕ) (xs : List X) → position-from key k n xs ≡ None → Missed key k xs
+missed-from key k n [] e = record { erased = refl; none = refl }
+missed-from key k n (x ∷ xs) e = ⊎-elim
+    (λ t. no-some n (sym e ∙ cond-true (eqb (key x) k) (Some n) (position-from key k (n + 1) xs) t))
+    (λ t. let h = missed-from key k (n + 1) xs (sym (cond-false (eqb (key x) k) (Some n) (position-from key k (n + 1) xs) t) ∙ e) in
+    record {
+      erased = cond-false (eqb (key x) k) xs (x ∷ erase key k xs) t ∙ ap (λ ys. x ∷ ys) (h .erased);
+      none = cond-false (eqb (key x) k) (Some x) (lookup key k xs) t ∙ h .none;
+    })
+    (cases-bool (eqb (key x) k))
+
+-- a search of the first `used` rows
+pub found-in : {X : Type 0} (key : X → ℕ) (k : ℕ) (xs : List X) (used i : ℕ) → used ≤ length xs
+    → Some i ≡ position key k (take (used - 0) xs) → Found key k (take used xs) i
+found-in key k xs used i l e = found-at key k (take used xs) i (sym (e ∙ ap (λ m. position key k (take m xs)) (sub-zero used)))
+
+pub missed-in : {X : Type 0} (key : X → ℕ) (k : ℕ) (xs : List X) (used : ℕ)
+    → None ≡ position key k (take (used - 0) xs) → Missed key k (take used xs)
+missed-in key k xs used e = missed-from key k 0 (take used xs) (sym (e ∙ ap (λ m. position key k (take m xs)) (sub-zero used)))
+
+pub found-below : {X : Type 0} (key : X → ℕ) (k : ℕ) (xs : List X) (used i : ℕ) → used ≤ length xs
+    → Found key k (take used xs) i → i < used
+found-below key k xs used i l f = omega (arith, f .within, length-take-le used xs l)
+
+-- what is left after a removal: one row fewer where the key was there
+pub length-erase : {X : Type 0} (key : X → ℕ) (k : ℕ) (xs : List X) (x : X) → lookup key k xs ≡ Some x → length (erase key k xs) + 1 ≡ length xs
+length-erase key k [] x e = no-some x e
+length-erase key k (y ∷ xs) x e = go (length-erase key k xs x) (eqb (key y) k) e
+  where
+    go : (lookup key k xs ≡ Some x → length (erase key k xs) + 1 ≡ length xs) → (b : Bool) → cond b (Some y) (lookup key k xs) ≡ Some x
+        → length (cond b xs (y ∷ erase key k xs)) + 1 ≡ suc (length xs)
+    go ih true q = omega arith
+    go ih false q = omega (arith, ih q)
+
+-- there is room for a row that is put
+pub put-fits : {X : Type 0} (key : X → ℕ) (k : ℕ) (xs ys : List X) (used rest : ℕ) → used ≤ length xs → length ys ≡ length xs
+    → rest ≤ used → take rest ys ≡ erase key k (take used xs) → (lookup key k (take used xs) ≡ None → used < length xs) → rest < length ys
+put-fits key k xs ys used rest h l n a room = go (lookup key k (take used xs)) refl
+  where
+    go : (o : Option _) → lookup key k (take used xs) ≡ o → rest < length ys
+    go None e = omega (arith, room e)
+    go (Some x) e = omega (arith, length-erase key k (take used xs) x e, ap length a, length-take-le used xs h, length-take-le rest ys (omega arith))

@@ -1,0 +1,3 @@
+// Policy sets: templates, links of them and static policies.
+pub(crate) mod keyed;
+pub mod rows;
