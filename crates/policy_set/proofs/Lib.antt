@@ -1,3 +1,3 @@
-pub mod Tables
+pub mod Lookups
 mod Places
 mod Shifts

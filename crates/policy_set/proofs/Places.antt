@@ -11,9 +11,9 @@ use lib.Dec.{eqb}
 use Rattle.std.specs.declared.option.Option.{Option}
 use Rattle.std.specs.declared.option.Option.the-variants.{Some, None}
 use Rattle.std.proofs.shelf.Tests.{eq-eqb, ne-eqb, cond-true, cond-false, cases-bool}
-use Rattle.std.proofs.shelf.Lists.{at-drop-more, length-take-le, getD-take}
-use Rattle.policy_set.specs.Tables.{position-from, position, without, erase, lookup, put-last}
-use Rattle.policy_set.proofs.Tables.{no-some}
+use Rattle.std.proofs.shelf.Lists.{at-drop-more, drop-more, length-take-le, length-push, take-at}
+use Rattle.policy_set.specs.Tables.{position-from, position, without, erase, lookup, put-last, row-last, moved-last}
+use Rattle.policy_set.proofs.Lookups.{no-some, lookup-key}
 
 -- one turn of the search: the row at i has the key, or it has not
 pub found-here : {X : Type 0} (key : X → ℕ) (k i : ℕ) (xs : List X) (x : X) → i < length xs → x ≡ getD xs i x
@@ -121,3 +121,41 @@ put-fits key k xs ys used rest h l n a room = go (lookup key k (take used xs)) r
     go : (o : Option _) → lookup key k (take used xs) ≡ o → rest < length ys
     go None e = omega (arith, room e)
     go (Some x) e = omega (arith, length-erase key k (take used xs) x e, ap length a, length-take-le used xs h, length-take-le rest ys (omega arith))
+
+-- the row that was found is moved last
+pub moved-found : {X : Type 0} (key : X → ℕ) (k : ℕ) (xs : List X) (i : ℕ) → Found key k xs i → without i xs ++ take 1 (drop i xs) ≡ moved-last key k xs
+moved-found {X} key k xs i f = go (lookup key k xs) refl
+  where
+    go : (o : Option X) → lookup key k xs ≡ o → without i xs ++ take 1 (drop i xs) ≡ row-last key o xs
+    go None e = no-some (getD xs i (absent e)) (sym e ∙ f .row (absent e))
+      where
+        absent : lookup key k xs ≡ None → X
+        absent q = first-of xs (f .within)
+          where
+            first-of : (ys : List X) → i < length ys → X
+            first-of [] h = absurd (omega arith)
+            first-of (y ∷ ys) h = y
+    go (Some x) e =
+      let d : drop i xs ≡ getD xs i x ∷ drop (i + 1) xs = drop-more xs i x (f .within) in
+      let v : getD xs i x ≡ x = let q = f .row x in cc in
+      ap (λ (ys : List X). without i xs ++ take 1 ys) d
+        ∙ (ap (λ y. without i xs ++ y ∷ []) v
+        ∙ ap (λ (ys : List X). ys ++ x ∷ []) (sym (f .erased) ∙ ap (λ j. erase key j xs) (sym (lookup-key key k xs x e))))
+
+pub length-moved : {X : Type 0} (key : X → ℕ) (k : ℕ) (xs : List X) → length (moved-last key k xs) ≡ length xs
+length-moved {X} key k xs = go (lookup key k xs) refl
+  where
+    go : (o : Option X) → lookup key k xs ≡ o → length (row-last key o xs) ≡ length xs
+    go None e = refl
+    go (Some x) e =
+      let n = lookup-key key k xs x e in
+      let l : length (erase key (key x) xs) + 1 ≡ length xs = ap (λ j. length (erase key j xs) + 1) n ∙ length-erase key k xs x e in
+      length-push (erase key (key x) xs) x ∙ l
+
+pub moved-front : {X : Type 0} (key : X → ℕ) (k : ℕ) (xs zs post : List X) (used i : ℕ) → used ≤ length xs → Found key k (take used xs) i
+  → zs ≡ without i (take (used - 0) xs) ++ take 1 (drop i (take (used - 0) xs)) → take used (zs ++ post) ≡ moved-last key k (take used xs)
+moved-front {X} key k xs zs post used i l f e =
+    let m : zs ≡ moved-last key k (take used xs) =
+      e ∙ (ap (λ m. without i (take m xs) ++ take 1 (drop i (take m xs))) (sub-zero used) ∙ moved-found key k (take used xs) i f) in
+    let n : length zs ≡ used = ap length m ∙ (length-moved key k (take used xs) ∙ length-take-le used xs l) in
+    take-at zs post used n ∙ m

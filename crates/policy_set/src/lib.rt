@@ -1,3 +1,4 @@
 // Policy sets: templates, links of them and static policies.
 pub(crate) mod keyed;
 pub mod rows;
+pub(crate) mod tables;

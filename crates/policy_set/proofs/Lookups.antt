@@ -8,7 +8,7 @@ use lib.Dec.{eqb}
 use Rattle.std.specs.declared.option.Option.{Option}
 use Rattle.std.specs.declared.option.Option.the-variants.{Some, None}
 use Rattle.std.proofs.shelf.Tests.{eqb-true, eqb-false, ne-eqb}
-use Rattle.policy_set.specs.Tables.{one-if, lookup, erase, put-last, put-all, times, Once}
+use Rattle.policy_set.specs.Tables.{one-if, lookup, erase, put-last, put-all, row-last, moved-last, times, Once}
 
 pub no-some : {X : Type 0} {R : Type 0} (x : X) → _≡_ {A = Option X} None (Some x) → R
 no-some x e = let z : _≡_ {A = ℕ} 0 1 = cc in absurd (omega arith)
@@ -126,3 +126,17 @@ once-put key xs x h = once-push key (erase key (key x) xs) x (once-erase key (ke
 pub once-all : {X : Type 0} (key : X → ℕ) (change : X → X) (live xs : List X) → Once key live → Once key (put-all key change live xs)
 once-all key change live [] h = h
 once-all key change live (x ∷ xs) h = once-all key change (put-last key (change x) live) xs (once-put key live (change x) h)
+
+-- the same of a list known by an equation
+pub once-pushed : {X : Type 0} (key : X → ℕ) (xs ys : List X) (x : X) → ys ≡ xs ++ x ∷ [] → Once key xs → lookup key (key x) xs ≡ None → Once key ys
+once-pushed key xs ys x e h n = subst (λ zs. Once key zs) (sym e) (once-push key xs x h n)
+
+pub once-erased : {X : Type 0} (key : X → ℕ) (k : ℕ) (xs ys : List X) → ys ≡ erase key k xs → Once key xs → Once key ys
+once-erased key k xs ys e h = subst (λ zs. Once key zs) (sym e) (once-erase key k xs h)
+
+pub once-moved : {X : Type 0} (key : X → ℕ) (k : ℕ) (xs ys : List X) → ys ≡ moved-last key k xs → Once key xs → Once key ys
+once-moved {X} key k xs ys e h = subst (λ zs. Once key zs) (sym e) (go (lookup key k xs))
+  where
+    go : (o : Option X) → Once key (row-last key o xs)
+    go None = h
+    go (Some x) = once-put key xs x h
