@@ -1,3 +1,5 @@
 pub mod Lookups
 mod Places
 mod Shifts
+pub mod Sounds
+pub mod Sets

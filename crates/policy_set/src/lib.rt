@@ -1,4 +1,5 @@
 // Policy sets: templates, links of them and static policies.
 pub(crate) mod keyed;
 pub mod rows;
+pub mod set;
 pub(crate) mod tables;

@@ -1,0 +1,8 @@
+-- The invariant of a set's type.
+use Rattle.policy_set.specs.declared.set.PolicySet.{PolicySet}
+use Rattle.policy_set.specs.Sound.{Sound}
+use Rattle.policy_set.specs.Meaning.{maps-of}
+use Rattle.policy_set.proofs.Sounds.{sound-of}
+
+pub sound : (s : PolicySet) → Sound (maps-of s)
+sound s = sound-of (maps-of s) (s .templates .once) (s .policies .once) (s .members .once) (s .«names_one») (s .valued) (s .«same_members»)

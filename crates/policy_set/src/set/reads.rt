@@ -1,0 +1,85 @@
+// What a set answers about its templates and policies.
+ghost use mathlib.Core.Path.{_≡_};
+ghost use mathlib.Core.List.{[]};
+ghost use lib.ListN.{length};
+ghost use Rattle.names.specs.Book.{texts};
+ghost use Rattle.policy_set.specs.Maps.{template-at, row-at, link-of, changed, in-force};
+ghost use Rattle.policy_set.specs.Answers.{name-known, get-answer, get-template-answer};
+ghost use Rattle.policy_set.specs.Handed.{parts, parts-found};
+ghost use Rattle.policy_set.specs.Meaning.{maps-of};
+
+use names::kept::NameBook;
+use policy::bound::Policy;
+use policy::template::Template;
+use refusals::NameNumber;
+use refusals::refusal::Refusal;
+use crate::keyed;
+use crate::rows::PolicyKeyed;
+use crate::rows::PolicyRow;
+use crate::rows::TemplateKeyed;
+use crate::set::PolicySet;
+
+// Refusal 1 of a name that the book lacks.
+pub(crate) fn known(names: &NameBook, id: NameNumber) -> Result<(), Refusal>
+    ensures { λ r. ⌜ r ≡ name-known (length (texts (now (names .entry)))) id ⌝ }
+{
+    if (id as usize) < names.count() {
+        Ok(())
+    } else {
+        Err(Refusal::UnknownName(id))
+    }
+}
+
+// The link id of a policy, if it is a link.
+fn link_id(row: &PolicyRow) -> Option<NameNumber>
+    ensures { λ r. ⌜ r ≡ link-of (now (row .entry)) ⌝ }
+{
+    if row.link { Some(row.id) } else { None }
+}
+
+impl PolicySet {
+    // The template with an id.
+    pub(crate) fn template(&self, id: NameNumber) -> Option<Template>
+        ensures { λ r. ⌜ r ≡ template-at (maps-of (now (self .entry))) id ⌝ }
+    {
+        keyed::get(self.templates.rows(), id)
+    }
+
+    // The row of the policy with an id.
+    pub(crate) fn row(&self, id: NameNumber) -> Option<PolicyRow>
+        ensures { λ r. ⌜ r ≡ row-at (maps-of (now (self .entry))) id ⌝ }
+    {
+        keyed::get(self.policies.rows(), id)
+    }
+
+    // The policy that is in force under an id.
+    pub(crate) fn in_force(&self, id: NameNumber) -> Option<Policy>
+        ensures { λ r. ⌜ changed parts r ≡ in-force (maps-of (now (self .entry))) id ⌝ }
+    {
+        let row = match self.row(id) {
+            Some(row) => row,
+            None => return None,
+        };
+        let template = match self.template(row.template) {
+            Some(template) => template,
+            None => unreachable(),
+        };
+        Some(Policy { template, link: link_id(&row), values: row.values })
+    }
+
+    // The policy with an id, if there is one.
+    pub fn get(&self, id: NameNumber, names: &NameBook) -> Result<Option<Policy>, Refusal>
+        ensures { λ r. ⌜ parts-found r ≡ get-answer (length (texts (now (names .entry)))) (maps-of (now (self .entry))) id ⌝ }
+    {
+        known(names, id)?;
+        Ok(self.in_force(id))
+    }
+
+    // The template with an id, if there is one; a static policy's body too.
+    pub fn get_template(&self, id: NameNumber, names: &NameBook) -> Result<Option<Template>, Refusal>
+        ensures { λ r. ⌜ r ≡ get-template-answer (length (texts (now (names .entry)))) (maps-of (now (self .entry))) id ⌝ }
+    {
+        known(names, id)?;
+        Ok(self.template(id))
+    }
+}
