@@ -1,5 +1,8 @@
 pub mod Lookups
+mod Passes
 mod Places
 mod Shifts
 pub mod Sounds
+pub mod Updates
+pub mod Removed
 pub mod Sets

@@ -7,6 +7,7 @@ use native.Mathlib.Omega.{arith}
 use lib.Dec.{eqb}
 use Rattle.std.specs.declared.option.Option.{Option}
 use Rattle.std.specs.declared.option.Option.the-variants.{Some, None}
+use Rattle.std.specs.Options.{isSome}
 use Rattle.std.proofs.shelf.Tests.{eqb-true, eqb-false, ne-eqb}
 use Rattle.policy_set.specs.Tables.{one-if, lookup, erase, put-last, put-all, row-last, moved-last, times, Once}
 
@@ -140,3 +141,49 @@ once-moved {X} key k xs ys e h = subst (λ zs. Once key zs) (sym e) (go (lookup 
     go : (o : Option X) → Once key (row-last key o xs)
     go None = h
     go (Some x) = once-put key xs x h
+
+-- what each key finds after one change
+pub lookup-pushed : {X : Type 0} (key : X → ℕ) (xs : List X) (x : X) (k : ℕ) → lookup key (key x) xs ≡ None
+  → lookup key k (xs ++ x ∷ []) ≡ cond (eqb (key x) k) (Some x) (lookup key k xs)
+lookup-pushed {X} key xs x k n = lookup-push key k xs x ∙ go (eqb (key x) k) refl
+  where
+    go : (b : Bool) → eqb (key x) k ≡ b → or-else (lookup key k xs) (cond b (Some x) None) ≡ cond b (Some x) (lookup key k xs)
+    go true e =
+      let z : lookup key k xs ≡ None = subst (λ j. lookup key j xs ≡ None) (eqb-true _ _ e) n in
+      rw z
+    go false e = or-none _
+
+pub lookup-erased : {X : Type 0} (key : X → ℕ) (a : ℕ) (xs : List X) (k : ℕ) → Once key xs
+  → lookup key k (erase key a xs) ≡ cond (eqb a k) None (lookup key k xs)
+lookup-erased {X} key a xs k h = go (eqb a k) refl
+  where
+    go : (b : Bool) → eqb a k ≡ b → lookup key k (erase key a xs) ≡ cond b None (lookup key k xs)
+    go true e = subst (λ j. lookup key j (erase key a xs) ≡ None) (eqb-true _ _ e) (lookup-erase-same key a xs h)
+    go false e = lookup-erase-other key a k xs (eqb-false _ _ e)
+
+pub lookup-moved : {X : Type 0} (key : X → ℕ) (a : ℕ) (xs : List X) (k : ℕ) → Once key xs → lookup key k (moved-last key a xs) ≡ lookup key k xs
+lookup-moved {X} key a xs k h = go (lookup key a xs) refl
+  where
+    go : (o : Option X) → lookup key a xs ≡ o → lookup key k (row-last key o xs) ≡ lookup key k xs
+    go None e = refl
+    go (Some x) e = lookup-put key k xs x h ∙ same (eqb (key x) k) refl
+      where
+        same : (b : Bool) → eqb (key x) k ≡ b → cond b (Some x) (lookup key k xs) ≡ lookup key k xs
+        same true q = sym e ∙ ap (λ j. lookup key j xs) (sym (lookup-key key a xs x e) ∙ eqb-true _ _ q)
+        same false q = refl
+
+pub lookup-kept : {X : Type 0} (key : X → ℕ) (a : ℕ) (xs : List X) (k : ℕ) → lookup key k xs ≡ cond (eqb a k) (lookup key a xs) (lookup key k xs)
+lookup-kept {X} key a xs k = go (eqb a k) refl
+  where
+    go : (b : Bool) → eqb a k ≡ b → lookup key k xs ≡ cond b (lookup key a xs) (lookup key k xs)
+    go true e = ap (λ j. lookup key j xs) (sym (eqb-true _ _ e))
+    go false e = refl
+
+-- what is there, by its test
+pub is-none : {X : Type 0} (o : Option X) → isSome o ≡ false → o ≡ None
+is-none None e = refl
+is-none (Some x) e = let z : _≡_ {A = ℕ} 0 1 = cc in absurd (omega arith)
+
+pub is-some : {X : Type 0} (o : Option X) → isSome o ≡ true → (x : X) × (o ≡ Some x)
+is-some None e = let z : _≡_ {A = ℕ} 0 1 = cc in absurd (omega arith)
+is-some (Some x) e = (x, refl)

@@ -12,7 +12,7 @@ use Rattle.policy_set.specs.declared.rows.PolicyRow.{PolicyRow}
 use Rattle.policy_set.specs.declared.rows.Member.{Member}
 use Rattle.policy_set.specs.Tables.{Once, lookup}
 use Rattle.policy_set.specs.Rows.{template-id, policy-id, member-id}
-use Rattle.policy_set.specs.Maps.{Maps, template-at, row-at, member-at, changed, passes, link-of}
+use Rattle.policy_set.specs.Maps.{Maps, template-at, row-at, member-at, Parts, changed, passes, link-of, whole, in-force}
 use Rattle.policy_set.specs.Sound.{slotted, one-thing, valued, same-member, NamesOne, Valued, SameMembers, member, Sound}
 use Rattle.policy_set.proofs.Lookups.{no-some, some-same, lookup-key}
 
@@ -98,3 +98,11 @@ unlinked-slotless m s k r t e f = go (template-at m k) refl
       let h = s .static k u r g e in
       let v : u ≡ t = some-same u t (sym g ∙ (sym (ap (template-at m) (h .0)) ∙ f)) in
       ap (λ b. static-unbound (cond b (Some (r .id)) None) (t .slots .bits)) (h .1) ∙ eq-eqb (t .slots .bits) 0 (ap (λ (w : Template). w .slots .bits) (sym v) ∙ h .2)
+
+-- a policy in force has a row
+pub row-of : (m : Maps) (k : ℕ) (p : Parts) → Some p ≡ in-force m k → (r : PolicyRow) × (row-at m k ≡ Some r)
+row-of m k p e = go (row-at m k) e
+  where
+    go : (o : Option PolicyRow) → Some p ≡ changed (whole m) o → (r : PolicyRow) × (o ≡ Some r)
+    go None f = no-some p (sym f)
+    go (Some r) f = (r, refl)

@@ -8,6 +8,7 @@ use Rattle.std.specs.declared.option.Option.the-variants.{Some, None}
 use Rattle.std.specs.declared.result.Result.{Result}
 use Rattle.std.specs.declared.result.Result.the-variants.{Ok, Err}
 use Rattle.std.specs.Options.{isSome}
+use Rattle.std.specs.shelf.Lists.{kept-by}
 use Rattle.refusals.specs.declared.refusal.Refusal.{Refusal}
 use Rattle.refusals.specs.declared.refusal.Refusal.the-variants.{UnknownName, NotLinkError, UnlinkingError, RemovePolicyNoLinkError, RemovePolicyNoTemplateError, NotTemplateError, RemoveTemplateNoTemplateError, RemoveTemplateWithLinksError}
 use Rattle.policy.specs.declared.template.Template.{Template}
@@ -39,10 +40,25 @@ abbrev pub if-accepted : {X : Type 0} → Result X Refusal → Maps → Maps →
 if-accepted (Ok x) after before = after
 if-accepted (Err e) after before = before
 
--- The reverse set of a template: the ids of its policies, in order.
-abbrev pub under : ℕ → List Member → List ℕ
-under t [] = []
-under t (x ∷ xs) = cond (eqb (x .template) t) (x .policy ∷ under t xs) (under t xs)
+-- The member is one of the template.
+abbrev pub is-under : ℕ → Member → Bool
+is-under t x = eqb (x .template) t
+
+-- The reverse set of a template: the members under it, in order.
+abbrev pub reverse-set : ℕ → Maps → List Member
+reverse-set t m = kept-by (is-under t) (m .members)
+
+-- `new`: no rows in any map.
+abbrev pub empty : Maps
+empty = record { templates = []; policies = []; members = [] }
+
+abbrev pub no-rows : {X : Type 0} → List X → Bool
+no-rows [] = true
+no-rows (x ∷ xs) = false
+
+-- `is_empty`: neither a template nor a policy.
+abbrev pub is-empty : Maps → Bool
+is-empty m = no-rows (m .templates) && no-rows (m .policies)
 
 -- `get`: the policy of an id.
 abbrev pub get-answer : ℕ → Maps → ℕ → Result (Option Parts) Refusal
@@ -69,15 +85,14 @@ without-policy id m = record {
 abbrev pub unlink-after : ℕ → Maps → ℕ → Maps
 unlink-after names m id = if-accepted (unlink-answer names m id) (without-policy id m) m
 
--- A static policy: 16 and 17 where it is not one.
-abbrev pub static-policy : ℕ → Option Parts → Option Template → Result Parts Refusal
-static-policy id None t = Err (RemovePolicyNoLinkError id)
-static-policy id (Some p) None = Err (RemovePolicyNoTemplateError id)
-static-policy id (Some p) (Some t) = Ok p
+-- A policy whose id is a template's too: 16 and 17 where it is not one.
+abbrev pub static-policy : ℕ → Option Parts → Bool → Result Parts Refusal
+static-policy id None in-templates = Err (RemovePolicyNoLinkError id)
+static-policy id (Some p) in-templates = cond in-templates (Ok p) (Err (RemovePolicyNoTemplateError id))
 
 -- `remove_static`: 1, 16 and 17; else the policy.
 abbrev pub remove-static-answer : ℕ → Maps → ℕ → Result Parts Refusal
-remove-static-answer names m id = and-then (name-known names id) (static-policy id (in-force m id) (template-at m id))
+remove-static-answer names m id = and-then (name-known names id) (static-policy id (in-force m id) (isSome (template-at m id)))
 
 -- The maps without a template.
 abbrev pub without-template : ℕ → Maps → Maps
@@ -88,26 +103,24 @@ abbrev pub policy-last : ℕ → Maps → Maps
 policy-last id m = record { templates = m .templates; policies = moved-last policy-id id (m .policies); members = m .members }
 
 -- What removing a static policy leaves. A link is put back, 17, and so stands last among the policies.
-abbrev pub static-removed : ℕ → Option Parts → Option Template → Maps → Maps
-static-removed id None t m = m
-static-removed id (Some p) None m = policy-last id m
-static-removed id (Some p) (Some t) m = without-template id (without-policy id m)
+abbrev pub static-removed : ℕ → Option Parts → Bool → Maps → Maps
+static-removed id None in-templates m = m
+static-removed id (Some p) in-templates m = cond in-templates (without-template id (without-policy id m)) (policy-last id m)
 
 abbrev pub remove-static-after : ℕ → Maps → ℕ → Maps
-remove-static-after names m id = cond (ltb id names) (static-removed id (in-force m id) (template-at m id) m) m
+remove-static-after names m id = if-accepted (name-known names id) (static-removed id (in-force m id) (isSome (template-at m id)) m) m
 
 -- A template without policies: 19 and 20 where it is not one.
-abbrev pub unlinked-template : ℕ → Option Template → List ℕ → Result Template Refusal
-unlinked-template id None links = Err (RemoveTemplateNoTemplateError id)
-unlinked-template id (Some t) [] = Ok t
-unlinked-template id (Some t) (l ∷ ls) = Err (RemoveTemplateWithLinksError id)
+abbrev pub unlinked-template : ℕ → Option Template → List Member → Result Template Refusal
+unlinked-template id None members = Err (RemoveTemplateNoTemplateError id)
+unlinked-template id (Some t) members = cond (no-rows members) (Ok t) (Err (RemoveTemplateWithLinksError id))
 
 -- `remove_template`: 1, 18, 19 and 20; else the template.
 abbrev pub remove-template-answer : ℕ → Maps → ℕ → Result Template Refusal
 remove-template-answer names m id =
     and-then (name-known names id)
     (and-then (refuse-if (isSome (row-at m id)) (NotTemplateError id))
-    (unlinked-template id (template-at m id) (under id (m .members))))
+    (unlinked-template id (template-at m id) (reverse-set id m)))
 
 abbrev pub remove-template-after : ℕ → Maps → ℕ → Maps
 remove-template-after names m id = if-accepted (remove-template-answer names m id) (without-template id m) m

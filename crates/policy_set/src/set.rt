@@ -7,6 +7,7 @@ use crate::tables::Policies;
 use crate::tables::Templates;
 
 pub(crate) mod reads;
+pub mod removals;
 
 // Templates, with the bodies of the static policies among them; all policies, links and static ones; and the members
 // of the reverse sets, each a policy under its template.

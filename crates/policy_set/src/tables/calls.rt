@@ -8,8 +8,13 @@ ghost use Rattle.policy_set.specs.Rows.{template-id, policy-id, member-id};
 ghost use Rattle.policy_set.specs.Held.{templates-in, policies-in, members-in};
 ghost use Rattle.std.specs.declared.option.Option.the-variants.{None};
 
+use policy::action::ActionConstraint;
+use policy::constraint::Effect;
+use policy::constraint::PrincipalOrResourceConstraint;
 use policy::template::Template;
+use policy::values::SlotEnv;
 use refusals::NameNumber;
+use refusals::slots::SlotSet;
 use crate::keyed;
 use crate::rows::Member;
 use crate::rows::MemberKeyed;
@@ -20,7 +25,34 @@ use crate::tables::Members;
 use crate::tables::Policies;
 use crate::tables::Templates;
 
+// What stands in an unused place.
+const BLANK_TEMPLATE: Template = Template {
+    id: 0,
+    effect: Effect::Permit,
+    principal: PrincipalOrResourceConstraint::Any,
+    action: ActionConstraint::Any,
+    resource: PrincipalOrResourceConstraint::Any,
+    clause: None,
+    slots: SlotSet { bits: 0 },
+};
+
+const BLANK_POLICY: PolicyRow = PolicyRow {
+    id: 0,
+    template: 0,
+    link: false,
+    values: SlotEnv { principal: None, resource: None },
+};
+
+const BLANK_MEMBER: Member = Member { policy: 0, template: 0 };
+
 impl Templates {
+    // No templates.
+    pub(crate) fn new() -> Templates
+        ensures { λ r. ⌜ templates-in r ≡ [] ⌝ }
+    {
+        Templates { rows: [BLANK_TEMPLATE; 64], used: 0 }
+    }
+
     // The rows, in order.
     pub(crate) fn rows(&self) -> &[Template]
         ensures { λ r. ⌜ now r ≡ templates-in (now (self .entry)) ⌝ }
@@ -46,6 +78,13 @@ impl Templates {
 }
 
 impl Policies {
+    // No policies.
+    pub(crate) fn new() -> Policies
+        ensures { λ r. ⌜ policies-in r ≡ [] ⌝ }
+    {
+        Policies { rows: [BLANK_POLICY; 256], used: 0 }
+    }
+
     // The rows, in order.
     pub(crate) fn rows(&self) -> &[PolicyRow]
         ensures { λ r. ⌜ now r ≡ policies-in (now (self .entry)) ⌝ }
@@ -81,6 +120,13 @@ impl Policies {
 }
 
 impl Members {
+    // No members.
+    pub(crate) fn new() -> Members
+        ensures { λ r. ⌜ members-in r ≡ [] ⌝ }
+    {
+        Members { rows: [BLANK_MEMBER; 256], used: 0 }
+    }
+
     // The rows, in order.
     pub(crate) fn rows(&self) -> &[Member]
         ensures { λ r. ⌜ now r ≡ members-in (now (self .entry)) ⌝ }
