@@ -5,4 +5,6 @@ mod Shifts
 pub mod Sounds
 pub mod Updates
 pub mod Removed
+pub mod Links
+pub mod Added
 pub mod Sets

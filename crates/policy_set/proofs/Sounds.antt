@@ -7,12 +7,14 @@ use Rattle.std.specs.declared.option.Option.{Option}
 use Rattle.std.specs.declared.option.Option.the-variants.{Some, None}
 use Rattle.std.proofs.shelf.Tests.{eqb-true, eqb-false, eq-eqb, ne-eqb, and-parts, and-from, not-true, not-from-false, false≢true}
 use Rattle.policy.specs.Binding.{value-slots, static-unbound}
+use Rattle.policy.specs.Arity.{Parts}
+use Rattle.policy.specs.Known.{names-known}
 use Rattle.policy.specs.declared.template.Template.{Template}
 use Rattle.policy_set.specs.declared.rows.PolicyRow.{PolicyRow}
 use Rattle.policy_set.specs.declared.rows.Member.{Member}
 use Rattle.policy_set.specs.Tables.{Once, lookup}
 use Rattle.policy_set.specs.Rows.{template-id, policy-id, member-id}
-use Rattle.policy_set.specs.Maps.{Maps, template-at, row-at, member-at, Parts, changed, passes, link-of, whole, in-force}
+use Rattle.policy_set.specs.Maps.{Maps, template-at, row-at, member-at, changed, passes, link-of, whole, in-force}
 use Rattle.policy_set.specs.Sound.{slotted, one-thing, valued, same-member, NamesOne, Valued, SameMembers, member, Sound}
 use Rattle.policy_set.proofs.Lookups.{no-some, some-same, lookup-key}
 

@@ -3,7 +3,7 @@ ghost use mathlib.Core.Path.{_≡_};
 ghost use lib.ListN.{length};
 ghost use Rattle.names.specs.Book.{texts};
 ghost use Rattle.policy_set.specs.Answers.{unlink-answer, unlink-after, remove-static-answer, remove-static-after, remove-template-answer, remove-template-after};
-ghost use Rattle.policy_set.specs.Handed.{parts-of};
+ghost use Rattle.policy.specs.Arity.{parts-of};
 ghost use Rattle.policy_set.specs.Meaning.{maps-of};
 
 use names::kept::NameBook;

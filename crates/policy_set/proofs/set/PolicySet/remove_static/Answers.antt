@@ -3,7 +3,7 @@ use lib.ListN.{length}
 use Rattle.names.specs.Book.{texts}
 use Rattle.policy_set.specs.Held.{templates-in, policies-in, members-in}
 use Rattle.policy_set.specs.Maps.{template-at}
-use Rattle.policy_set.specs.Handed.{parts}
+use Rattle.policy.specs.Arity.{parts}
 use Rattle.policy_set.specs.Answers.{without-template, without-policy, policy-last}
 use Rattle.policy_set.specs.Meaning.{maps-of}
 use Rattle.policy_set.proofs.Lookups.{is-some}
