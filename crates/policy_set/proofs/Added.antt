@@ -15,7 +15,7 @@ use Rattle.policy_set.specs.declared.rows.PolicyRow.{PolicyRow}
 use Rattle.policy_set.specs.declared.rows.Member.{Member}
 use Rattle.policy_set.specs.Rows.{template-id, policy-id, member-id}
 use Rattle.policy_set.specs.Maps.{Maps, template-at, row-at, member-at, changed, passes}
-use Rattle.policy_set.specs.Sound.{slotted, member, Sound}
+use Rattle.policy_set.specs.Sound.{has-slots, member, Sound}
 use Rattle.policy_set.specs.Answers.{with-policy}
 use Rattle.policy_set.proofs.Lookups.{lookup-pushed, lookup-kept}
 use Rattle.policy_set.proofs.Places.{length-by-keys}
@@ -45,9 +45,10 @@ link-added m r s a b = record {
     apart = λ k q n e p. sym a }
 
 pub link-added-kept : (m : Maps) (r : PolicyRow) (t : Template) → Sound m → Kept m → template-at m (r .id) ≡ None → row-at m (r .id) ≡ None
-  → r .link ≡ true → template-at m (r .template) ≡ Some t → slotted t ≡ true → value-slots (r .values) ≡ t .slots .bits → Kept (with-policy r m)
+  → r .link ≡ true → template-at m (r .template) ≡ Some t → has-slots t ≡ true → value-slots (r .values) ≡ t .slots .bits → Kept (with-policy r m)
 link-added-kept m r t s old a b l e h v =
     kept m (with-policy r m) (r .id) None (Some r) (Some (member r)) (link-added m r s a b) old record {
-      one = and-from (r .link) (passes slotted (template-at m (r .template))) l (ap (passes slotted) e ∙ h);
+      one = and-from (r .link) (passes has-slots (template-at m (r .template))) l (ap (passes has-slots) e ∙ h);
       values = ap (passes (λ (u : Template). eqb (value-slots (r .values)) (u .slots .bits))) e ∙ eq-eqb (value-slots (r .values)) (t .slots .bits) v;
+      scopes = refl;
       member = eq-eqb (r .template) (r .template) refl }

@@ -18,7 +18,7 @@ use Rattle.policy.specs.declared.template.Template.{Template}
 use Rattle.policy.specs.declared.values.SlotEnv.{SlotEnv}
 use Rattle.policy_set.specs.Tables.{has-room}
 use Rattle.policy_set.specs.Maps.{Maps, template-at, row-at, bound}
-use Rattle.policy_set.specs.Sound.{slotted}
+use Rattle.policy_set.specs.Sound.{has-slots}
 use Rattle.policy_set.specs.Answers.{refuse-if, linked-answer}
 use Rattle.policy_set.proofs.Lookups.{is-none}
 
@@ -49,7 +49,7 @@ linked-taken m new values t binds b = rw (binds, b) refl
 pub record Linkable (m : Maps) (new : ℕ) (values : SlotEnv) (t : Template) (p : Parts) : Type 0 where
   pub template-free : template-at m new ≡ None
   pub policy-free : row-at m new ≡ None
-  pub has-slots : slotted t ≡ true
+  pub has-slots : has-slots t ≡ true
   pub room : length (m .policies) < 256
   pub made : p ≡ record { template = t; link = Some new; values = values }
 
@@ -57,12 +57,12 @@ pub linkable : (m : Maps) (new : ℕ) (values : SlotEnv) (t : Template) (p : Par
 linkable m new values t p e =
     let a = accepted-then (bindable (t .slots) values) _ p e in
     let b = accepted-then (refuse-if (bound m new) (PolicyIdConflict new)) _ p (a .1) in
-    let c = accepted-then (refuse-if (not (slotted t)) (Slotless (t .id))) _ p (b .1) in
+    let c = accepted-then (refuse-if (not (has-slots t)) (Slotless (t .id))) _ p (b .1) in
     let d = accepted-then (refuse-if (not (has-room 256 (m .policies))) (Full Policies)) _ p (c .1) in
     let free = or-parts (isSome (template-at m new)) (isSome (row-at m new)) (not-refused (bound m new) _ (b .0)) in
     record {
       template-free = is-none (template-at m new) (free .0);
       policy-free = is-none (row-at m new) (free .1);
-      has-slots = not-false _ (not-refused (not (slotted t)) _ (c .0));
+      has-slots = not-false _ (not-refused (not (has-slots t)) _ (c .0));
       room = ltb-true (length (m .policies)) 256 (not-false _ (not-refused (not (has-room 256 (m .policies))) _ (d .0)));
       made = let q = d .1 in cc }

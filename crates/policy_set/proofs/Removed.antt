@@ -26,7 +26,7 @@ use Rattle.policy_set.proofs.Updates.{Update, Fits, Kept, kept, kept-same}
 
 -- nothing stands under an id
 pub nothing-fits : (m : Maps) → Fits m None None None
-nothing-fits m = record { one = refl; values = refl; member = refl }
+nothing-fits m = record { one = refl; values = refl; scopes = refl; member = refl }
 
 -- a link is removed
 pub link-removed : (m : Maps) (id : ℕ) → Sound m → template-at m id ≡ None → Update m (without-policy id m) id None None None

@@ -21,7 +21,7 @@ use Rattle.policy_set.specs.declared.rows.Member.{Member}
 use Rattle.policy_set.specs.Tables.{erase, moved-last, has-room}
 use Rattle.policy_set.specs.Rows.{template-id, policy-id, member-id}
 use Rattle.policy_set.specs.Maps.{Maps, template-at, row-at, in-force, bound}
-use Rattle.policy_set.specs.Sound.{slotted, member}
+use Rattle.policy_set.specs.Sound.{has-slots, member}
 
 -- A refusal where a test says yes.
 abbrev pub refuse-if : Bool → Refusal → Result (Unit {0}) Refusal
@@ -70,7 +70,7 @@ abbrev pub linked-answer : Maps → ℕ → SlotEnv → Template → Result Part
 linked-answer m new values t =
     and-then (bindable (t .slots) values)
     (and-then (refuse-if (bound m new) (PolicyIdConflict new))
-    (and-then (refuse-if (not (slotted t)) (Slotless (t .id)))
+    (and-then (refuse-if (not (has-slots t)) (Slotless (t .id)))
     (and-then (refuse-if (not (has-room 256 (m .policies))) (Full Policies))
     (Ok (record { template = t; link = Some new; values = values })))))
 

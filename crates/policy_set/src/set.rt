@@ -1,6 +1,6 @@
 // Policy sets: what they hold and what they keep.
 ghost use Rattle.policy_set.specs.Held.{maps-in};
-ghost use Rattle.policy_set.specs.Sound.{NamesOne, Valued, SameMembers};
+ghost use Rattle.policy_set.specs.Sound.{NamesOne, Valued, Scoped, SameMembers};
 
 use crate::tables::Members;
 use crate::tables::Policies;
@@ -19,5 +19,6 @@ pub struct PolicySet {
     members: Members,
     ghost names_one: { NamesOne (maps-in templates policies members) },
     ghost valued: { Valued (maps-in templates policies members) },
+    ghost scoped: { Scoped (maps-in templates policies members) },
     ghost same_members: { SameMembers (maps-in templates policies members) },
 }

@@ -35,4 +35,4 @@ ghost-self c =
     let k = kept-as (with-policy row (maps-of set)) (templates-in (set .templates)) (policies-in (c .push .last .self)) (members-in (c .push-2 .last .self))
       refl (c .push .ensures) (c .push-2 .ensures)
       (link-added-kept (maps-of set) row t (sound set) (kept-in set) (l .template-free) (l .policy-free) refl (sym (c .in-Some .ensures tt)) (l .has-slots) exact) in
-    (k .0, (k .1, (k .2, tt)))
+    (k .one, (k .values, (k .scopes, (k .members, tt))))

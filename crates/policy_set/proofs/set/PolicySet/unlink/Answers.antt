@@ -16,4 +16,4 @@ ghost-self c =
       refl (c .remove .ensures) (c .remove-in-Some .ensures)
       (link-removed-kept (maps-of set) (c .args .id) (sound set) (kept-in set)
         (is-none (template-at (maps-of set) (c .args .id)) (sym (c .has-template .ensures) ∙ c .if-has-template .left))) in
-    (k .0, (k .1, (k .2, tt)))
+    (k .one, (k .values, (k .scopes, (k .members, tt))))
