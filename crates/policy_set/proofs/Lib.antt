@@ -1,10 +1,12 @@
 pub mod Lookups
 mod Passes
 mod Places
+mod Refusing
 mod Shifts
 pub mod Sounds
 pub mod Updates
-pub mod Removed
-pub mod Links
+pub mod Accepted
 pub mod Added
+pub mod Changes
+pub mod Removed
 pub mod Sets

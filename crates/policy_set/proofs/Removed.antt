@@ -17,9 +17,12 @@ use Rattle.policy_set.specs.declared.rows.PolicyRow.{PolicyRow}
 use Rattle.policy_set.specs.declared.rows.Member.{Member}
 use Rattle.policy_set.specs.Tables.{Once, lookup, erase}
 use Rattle.policy_set.specs.Rows.{template-id, policy-id, member-id}
-use Rattle.policy_set.specs.Maps.{Maps, template-at, row-at, member-at, in-force, changed}
+use Rattle.policy_set.specs.Maps.{Maps, template-at, row-at, member-at, in-force, changed, thing}
+use Rattle.policy_set.specs.Maps.Thing.{policy, template}
 use Rattle.policy_set.specs.Sound.{member, Sound}
 use Rattle.policy_set.specs.Answers.{remove-static-answer, remove-static-after, no-rows, is-under, reverse-set, without-policy, without-template, policy-last}
+use Rattle.policy_set.specs.Laws.{Removes}
+use Rattle.policy_set.proofs.Changes.{removes}
 use Rattle.policy_set.proofs.Lookups.{some-same, no-some, lookup-erased, lookup-kept, lookup-moved}
 use Rattle.policy_set.proofs.Sounds.{no-true}
 use Rattle.policy_set.proofs.Updates.{Update, Fits, Kept, kept, kept-same}
@@ -38,6 +41,11 @@ link-removed m id s n = record {
 
 pub link-removed-kept : (m : Maps) (id : ℕ) → Sound m → Kept m → template-at m id ≡ None → Kept (without-policy id m)
 link-removed-kept m id s old n = kept m (without-policy id m) id None None None (link-removed m id s n) old (nothing-fits (without-policy id m))
+
+pub link-removes : (m : Maps) (id : ℕ) (p : Parts) → Sound m → template-at m id ≡ None → in-force m id ≡ Some p → Removes m (without-policy id m) id (policy p)
+link-removes m id p s a b =
+    removes m (without-policy id m) id (policy p) (s .members-once) (link-removed m id s a) refl
+      (ap (λ (o : Option Template). thing o (in-force m id)) a ∙ ap (thing None) b)
 
 -- a static policy is removed
 pub static-removed-all : (m : Maps) (id : ℕ) (t : Template) (r : PolicyRow) → Sound m → template-at m id ≡ Some t → row-at m id ≡ Some r

@@ -7,7 +7,7 @@ use Rattle.policy_set.specs.Answers.{with-policy, link-row}
 use Rattle.policy_set.specs.Meaning.{maps-of}
 use Rattle.policy_set.proofs.Sets.{sound, kept-in}
 use Rattle.policy_set.proofs.Updates.{kept-as}
-use Rattle.policy_set.proofs.Links.{linkable}
+use Rattle.policy_set.proofs.Accepted.{linkable}
 use Rattle.policy_set.proofs.Added.{as-many, no-member, link-added-kept}
 use Rattle.policy_set.proofs.set.PolicySet.link.Needs as need
 

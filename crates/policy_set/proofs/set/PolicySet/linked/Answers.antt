@@ -3,7 +3,7 @@ use Rattle.std.specs.declared.option.Option.the-variants.{Some}
 use Rattle.std.proofs.shelf.Results.{err-from-errBy}
 use Rattle.policy.specs.Arity.{bindable, parts}
 use Rattle.policy_set.specs.Meaning.{maps-of}
-use Rattle.policy_set.proofs.Links.{then-refused, then-accepted, linked-taken}
+use Rattle.policy_set.proofs.Refusing.{then-refused, then-accepted, linked-taken}
 use Rattle.policy_set.proofs.set.PolicySet.linked.Needs as need
 
 pub returns-in-Break-policy : need.returns-in-Break-policy
