@@ -1,6 +1,6 @@
 -- What holds where a call accepts.
 use mathlib.Core.Path.{_≡_, refl, sym, ap, _∙_}
-use mathlib.Core.Bool.{Bool, true, false, not}
+use mathlib.Core.Bool.{Bool, true, false, cond, not}
 use mathlib.Core.List.{[], _∷_}
 use Prim.Native.Nat.{ℕ, _<_}
 use lib.ListN.{length}
@@ -12,7 +12,7 @@ use Rattle.std.proofs.shelf.Tests.{or-parts, not-false, ltb-true}
 use Rattle.std.specs.declared.result.Result.{Result}
 use Rattle.std.specs.declared.result.Result.the-variants.{Ok, Err}
 use Rattle.refusals.specs.declared.refusal.Refusal.{Refusal}
-use Rattle.refusals.specs.declared.refusal.Refusal.the-variants.{PolicyIdConflict, NotLinkError, UnlinkingError, Slotless, Full}
+use Rattle.refusals.specs.declared.refusal.Refusal.the-variants.{PolicyIdConflict, NotLinkError, UnlinkingError, NotTemplateError, RemoveTemplateNoTemplateError, RemoveTemplateWithLinksError, Slotless, Full}
 use Rattle.refusals.specs.declared.refusal.Table.the-variants.{Policies}
 use Rattle.policy.specs.Arity.{Parts, bindable}
 use Rattle.policy.specs.Known.{and-then, names-known}
@@ -21,7 +21,7 @@ use Rattle.policy.specs.declared.values.SlotEnv.{SlotEnv}
 use Rattle.policy_set.specs.Tables.{has-room}
 use Rattle.policy_set.specs.Maps.{Maps, template-at, row-at, in-force, bound}
 use Rattle.policy_set.specs.Sound.{has-slots}
-use Rattle.policy_set.specs.Answers.{refuse-if, found-then, linked-answer, unlink-answer}
+use Rattle.policy_set.specs.Answers.{refuse-if, found-then, no-rows, reverse-set, linked-answer, unlink-answer, remove-template-answer}
 use Rattle.policy_set.proofs.Lookups.{is-none}
 
 -- a test that accepted, and what came after it
@@ -72,3 +72,23 @@ unlinkable names m id p e =
     record {
       no-template = is-none (template-at m id) (not-refused (isSome (template-at m id)) _ (b .0));
       policy = found-some (UnlinkingError id) (in-force m id) p (b .1) }
+
+-- what holds where a template is removed
+pub record Removable (m : Maps) (id : ℕ) (t : Template) : Type 0 where
+  pub template : template-at m id ≡ Some t
+  pub no-policy : row-at m id ≡ None
+  pub no-members : no-rows (reverse-set id m) ≡ true
+
+pub removable : (names : ℕ) (m : Maps) (id : ℕ) (t : Template) → Ok t ≡ remove-template-answer names m id → Removable m id t
+removable names m id t e =
+    let a = accepted-then (names-known names (id ∷ [])) _ t e in
+    let b = accepted-then (refuse-if (isSome (row-at m id)) (NotTemplateError id)) _ t (a .1) in
+    let c = there (template-at m id) (no-rows (reverse-set id m)) (b .1) in
+    record { template = c .0; no-policy = is-none (row-at m id) (not-refused (isSome (row-at m id)) _ (b .0)); no-members = c .1 }
+  where
+    there : (o : Option Template) (none : Bool)
+      → Ok t ≡ found-then (RemoveTemplateNoTemplateError id) o (λ (u : Template). cond none (Ok u) (Err (RemoveTemplateWithLinksError id)))
+      → (o ≡ Some t) × (none ≡ true)
+    there None none q = let z : _≡_ {A = ℕ} 0 1 = cc in absurd (omega arith)
+    there (Some u) true q = let z : u ≡ t = cc in (ap Some z, refl)
+    there (Some u) false q = let z : _≡_ {A = ℕ} 0 1 = cc in absurd (omega arith)

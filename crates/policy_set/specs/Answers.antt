@@ -136,17 +136,13 @@ static-removed id (Some p) in-templates m = cond in-templates (without-template 
 abbrev pub remove-static-after : ℕ → Maps → ℕ → Maps
 remove-static-after names m id = if-accepted (names-known names (id ∷ [])) (static-removed id (in-force m id) (isSome (template-at m id)) m) m
 
--- A template without policies: 19 and 20 where it is not one.
-abbrev pub unlinked-template : ℕ → Option Template → List Member → Result Template Refusal
-unlinked-template id None members = Err (RemoveTemplateNoTemplateError id)
-unlinked-template id (Some t) members = cond (no-rows members) (Ok t) (Err (RemoveTemplateWithLinksError id))
-
 -- `remove_template`: 1, 18, 19 and 20; else the template.
 abbrev pub remove-template-answer : ℕ → Maps → ℕ → Result Template Refusal
 remove-template-answer names m id =
     and-then (names-known names (id ∷ []))
     (and-then (refuse-if (isSome (row-at m id)) (NotTemplateError id))
-    (unlinked-template id (template-at m id) (reverse-set id m)))
+    (found-then (RemoveTemplateNoTemplateError id) (template-at m id)
+    (λ t. cond (no-rows (reverse-set id m)) (Ok t) (Err (RemoveTemplateWithLinksError id)))))
 
 abbrev pub remove-template-after : ℕ → Maps → ℕ → Maps
 remove-template-after names m id = if-accepted (remove-template-answer names m id) (without-template id m) m

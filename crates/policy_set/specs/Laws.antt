@@ -9,11 +9,12 @@ use Rattle.std.specs.declared.result.Result.{Result}
 use Rattle.refusals.specs.Refusals.{number}
 use Rattle.refusals.specs.declared.refusal.Refusal.{Refusal}
 use Rattle.policy.specs.Arity.{Parts}
+use Rattle.policy.specs.declared.template.Template.{Template}
 use Rattle.policy_set.specs.declared.rows.Member.{Member}
 use Rattle.policy_set.specs.Tables.{erase, times}
 use Rattle.policy_set.specs.Rows.{member-id}
 use Rattle.policy_set.specs.Maps.{Maps, Thing, bound, named}
-use Rattle.policy_set.specs.Maps.Thing.{policy}
+use Rattle.policy_set.specs.Maps.Thing.{template, policy}
 use Rattle.policy_set.specs.Answers.{is-under, reverse-set}
 
 -- One thing fewer: the id named it, and is bound nowhere now; every other id names what it named.
@@ -41,3 +42,7 @@ pub record Refused (before after : Maps) (e : Refusal) : Type 0 where
 -- The removal of a policy: what is handed back is gone, or nothing has changed.
 abbrev pub Removal : Maps → Maps → ℕ → Result Parts Refusal → Type 0
 Removal before after id answer = Cases answer (λ p. Removes before after id (policy p)) (Refused before after)
+
+-- The removal of a template: likewise.
+abbrev pub TemplateRemoval : Maps → Maps → ℕ → Result Template Refusal → Type 0
+TemplateRemoval before after id answer = Cases answer (λ t. Removes before after id (template t)) (Refused before after)
