@@ -12,16 +12,16 @@ use Rattle.std.proofs.shelf.Tests.{or-parts, not-false, ltb-true}
 use Rattle.std.specs.declared.result.Result.{Result}
 use Rattle.std.specs.declared.result.Result.the-variants.{Ok, Err}
 use Rattle.refusals.specs.declared.refusal.Refusal.{Refusal}
-use Rattle.refusals.specs.declared.refusal.Refusal.the-variants.{PolicyIdConflict, NotLinkError, UnlinkingError, NotTemplateError, RemoveTemplateNoTemplateError, RemoveTemplateWithLinksError, Slotless, Full}
+use Rattle.refusals.specs.declared.refusal.Refusal.the-variants.{NoSuchTemplate, PolicyIdConflict, NotLinkError, UnlinkingError, NotTemplateError, RemoveTemplateNoTemplateError, RemoveTemplateWithLinksError, Slotless, Full}
 use Rattle.refusals.specs.declared.refusal.Table.the-variants.{Policies}
 use Rattle.policy.specs.Arity.{Parts, bindable}
-use Rattle.policy.specs.Known.{and-then, names-known}
+use Rattle.policy.specs.Known.{and-then, names-known, values-names}
 use Rattle.policy.specs.declared.template.Template.{Template}
 use Rattle.policy.specs.declared.values.SlotEnv.{SlotEnv}
 use Rattle.policy_set.specs.Tables.{has-room}
 use Rattle.policy_set.specs.Maps.{Maps, template-at, row-at, in-force, bound}
 use Rattle.policy_set.specs.Sound.{has-slots}
-use Rattle.policy_set.specs.Answers.{refuse-if, found-then, no-rows, reverse-set, linked-answer, unlink-answer, remove-template-answer}
+use Rattle.policy_set.specs.Answers.{refuse-if, found-then, no-rows, reverse-set, linked-answer, link-answer, unlink-answer, remove-template-answer}
 use Rattle.policy_set.proofs.Lookups.{is-none}
 
 -- a test that accepted, and what came after it
@@ -54,6 +54,15 @@ linkable m new values t p e =
       has-slots = not-false _ (not-refused (not (has-slots t)) _ (c .0));
       room = ltb-true (length (m .policies)) 256 (not-false _ (not-refused (not (has-room 256 (m .policies))) _ (d .0)));
       made = let q = d .1 in cc }
+
+-- a link is made from a template that is there
+pub link-of-template : (names : ℕ) (m : Maps) (template new : ℕ) (values : SlotEnv) (p : Parts) → Ok p ≡ link-answer names m template new values
+  → (t : Template) × (template-at m template ≡ Some t) × Linkable m new values t p
+link-of-template names m template new values p e = there (template-at m template) (accepted-then (names-known names (template ∷ new ∷ values-names values)) _ p e .1)
+  where
+    there : (o : Option Template) → Ok p ≡ found-then (NoSuchTemplate template) o (linked-answer m new values) → (t : Template) × (o ≡ Some t) × Linkable m new values t p
+    there None q = let z : _≡_ {A = ℕ} 0 1 = cc in absurd (omega arith)
+    there (Some t) q = (t, refl, linkable m new values t p q)
 
 -- what `found-then` went on with
 pub found-some : {X : Type 0} (e : Refusal) (o : Option X) (x : X) → Ok x ≡ found-then e o Ok → o ≡ Some x

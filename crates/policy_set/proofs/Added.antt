@@ -1,7 +1,7 @@
 -- What additions change, and that they keep what a set keeps.
 use mathlib.Core.Path.{_≡_, refl, sym, ap, _∙_}
 use mathlib.Core.Bool.{Bool, true, false, cond, _&&_}
-use mathlib.Core.List.{List}
+use mathlib.Core.List.{List, [], _∷_}
 use Prim.Native.Nat.{ℕ}
 use lib.Dec.{eqb}
 use lib.ListN.{length}
@@ -10,11 +10,15 @@ use Rattle.std.specs.declared.option.Option.the-variants.{Some, None}
 use Rattle.std.specs.Options.{isSome}
 use Rattle.std.proofs.shelf.Tests.{eq-eqb, and-from}
 use Rattle.policy.specs.Binding.{value-slots}
+use Rattle.policy.specs.Arity.{Parts}
 use Rattle.policy.specs.declared.template.Template.{Template}
 use Rattle.policy_set.specs.declared.rows.PolicyRow.{PolicyRow}
 use Rattle.policy_set.specs.declared.rows.Member.{Member}
 use Rattle.policy_set.specs.Rows.{template-id, policy-id, member-id}
-use Rattle.policy_set.specs.Maps.{Maps, template-at, row-at, member-at, changed, passes}
+use Rattle.policy_set.specs.Maps.{Maps, template-at, row-at, member-at, changed, passes, present, link-of}
+use Rattle.policy_set.specs.Maps.Thing.{policy}
+use Rattle.policy_set.specs.Laws.{Adds}
+use Rattle.policy_set.proofs.Changes.{adds}
 use Rattle.policy_set.specs.Sound.{has-slots, member, Sound}
 use Rattle.policy_set.specs.Answers.{with-policy}
 use Rattle.policy_set.proofs.Lookups.{lookup-pushed, lookup-kept}
@@ -52,3 +56,14 @@ link-added-kept m r t s old a b l e h v =
       values = ap (passes (λ (u : Template). eqb (value-slots (r .values)) (u .slots .bits))) e ∙ eq-eqb (value-slots (r .values)) (t .slots .bits) v;
       scopes = refl;
       member = eq-eqb (r .template) (r .template) refl }
+
+-- the policy of a link
+pub link-adds : (m : Maps) (r : PolicyRow) (t : Template) → Sound m → template-at m (r .id) ≡ None → row-at m (r .id) ≡ None
+  → r .link ≡ true → template-at m (r .template) ≡ Some t
+  → Adds m (with-policy r m) (r .id) (policy record { template = t; link = Some (r .id); values = r .values }) (member r ∷ [])
+link-adds m r t s a b l e =
+    adds m (with-policy r m) (r .id) (policy record { template = t; link = Some (r .id); values = r .values }) None (Some r) (Some (member r)) (member r ∷ []) a b (link-added m r s a b) refl
+      (ap (λ (o : Option Template). policy (parts (present o) (link-of r))) e ∙ ap (λ b. policy (parts t (cond b (Some (r .id)) None))) l)
+  where
+    parts : Template → Option ℕ → Parts
+    parts u o = record { template = u; link = o; values = r .values }

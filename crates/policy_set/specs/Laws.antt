@@ -1,7 +1,7 @@
 -- What the calls do to a set, in the subject's words.
 use mathlib.Core.Path.{_≡_}
 use mathlib.Core.Bool.{false}
-use mathlib.Core.List.{List, _++_}
+use mathlib.Core.List.{List, [], _∷_, _++_}
 use Prim.Native.Nat.{ℕ}
 use Rattle.std.specs.Results.{Cases}
 use Rattle.std.specs.shelf.Lists.{kept-by}
@@ -46,3 +46,8 @@ Removal before after id answer = Cases answer (λ p. Removes before after id (po
 -- The removal of a template: likewise.
 abbrev pub TemplateRemoval : Maps → Maps → ℕ → Result Template Refusal → Type 0
 TemplateRemoval before after id answer = Cases answer (λ t. Removes before after id (template t)) (Refused before after)
+
+-- A link: the policy that is handed back is in force under the new id, last in its template's reverse set.
+abbrev pub Linking : Maps → Maps → ℕ → ℕ → Result Parts Refusal → Type 0
+Linking before after t new answer =
+    Cases answer (λ p. Adds before after new (policy p) (record { policy = new; template = t } ∷ [])) (Refused before after)
