@@ -8,6 +8,7 @@ use lib.ListN.{length}
 use Rattle.std.specs.declared.option.Option.{Option}
 use Rattle.std.specs.declared.option.Option.the-variants.{Some, None}
 use Rattle.std.specs.Options.{isSome}
+use Rattle.std.proofs.shelf.Lists.{append-nil}
 use Rattle.std.proofs.shelf.Tests.{eq-eqb, and-from}
 use Rattle.policy.specs.Binding.{value-slots}
 use Rattle.policy.specs.Arity.{Parts}
@@ -16,12 +17,13 @@ use Rattle.policy_set.specs.declared.rows.PolicyRow.{PolicyRow}
 use Rattle.policy_set.specs.declared.rows.Member.{Member}
 use Rattle.policy_set.specs.Rows.{template-id, policy-id, member-id}
 use Rattle.policy_set.specs.Maps.{Maps, template-at, row-at, member-at, changed, passes, present, link-of}
-use Rattle.policy_set.specs.Maps.Thing.{policy}
+use Rattle.policy_set.specs.Maps.Thing.{template, policy}
 use Rattle.policy_set.specs.Laws.{Adds}
 use Rattle.policy_set.proofs.Changes.{adds}
-use Rattle.policy_set.specs.Sound.{has-slots, member, Sound}
-use Rattle.policy_set.specs.Answers.{with-policy}
-use Rattle.policy_set.proofs.Lookups.{lookup-pushed, lookup-kept}
+use Rattle.policy_set.specs.Sound.{has-slots, scopes-within, member, Sound}
+use Rattle.policy_set.specs.Answers.{with-template, with-policy}
+use Rattle.policy_set.proofs.Lookups.{no-some, lookup-pushed, lookup-kept}
+use Rattle.policy_set.proofs.Sounds.{template-of}
 use Rattle.policy_set.proofs.Places.{length-by-keys}
 use Rattle.policy_set.proofs.Updates.{Update, Fits, Kept, kept}
 
@@ -38,6 +40,23 @@ as-many m s = length-by-keys member-id policy-id (m .members) (m .policies) (s .
 -- the id of a policy that is not there is no member's
 pub no-member : (m : Maps) → Sound m → (k : ℕ) → row-at m k ≡ None → member-at m k ≡ None
 no-member m s k e = s .members k ∙ ap (changed member) e
+
+-- a template is added
+pub template-added : (m : Maps) (t : Template) → Sound m → template-at m (t .id) ≡ None → row-at m (t .id) ≡ None
+  → Update m (with-template t m) (t .id) (Some t) None None
+template-added m t s a b = record {
+    templates = λ k. lookup-pushed template-id (m .templates) t k a;
+    rows = λ k. lookup-kept policy-id (t .id) (m .policies) k ∙ ap (λ (o : Option PolicyRow). cond (eqb (t .id) k) o (row-at m k)) b;
+    members = λ k. lookup-kept member-id (t .id) (m .members) k ∙ ap (λ (o : Option Member). cond (eqb (t .id) k) o (member-at m k)) (no-member m s (t .id) b);
+    apart = λ k q n e p. let u = template-of m s k q e in no-some (u .0) (sym a ∙ (ap (template-at m) (sym p) ∙ u .1)) }
+
+pub template-added-kept : (m : Maps) (t : Template) → Sound m → Kept m → template-at m (t .id) ≡ None → row-at m (t .id) ≡ None
+  → has-slots t ≡ true → scopes-within t ≡ true → Kept (with-template t m)
+template-added-kept m t s old a b h w =
+    kept m (with-template t m) (t .id) (Some t) None None (template-added m t s a b) old record { one = h; values = refl; scopes = w; member = refl }
+
+pub template-adds : (m : Maps) (t : Template) → Sound m → template-at m (t .id) ≡ None → row-at m (t .id) ≡ None → Adds m (with-template t m) (t .id) (template t) []
+template-adds m t s a b = adds m (with-template t m) (t .id) (template t) (Some t) None None [] a b (template-added m t s a b) (sym (append-nil (m .members))) refl
 
 -- a link is added
 pub link-added : (m : Maps) (r : PolicyRow) → Sound m → template-at m (r .id) ≡ None → row-at m (r .id) ≡ None

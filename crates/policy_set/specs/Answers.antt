@@ -10,9 +10,11 @@ use Rattle.std.specs.declared.result.Result.the-variants.{Ok, Err}
 use Rattle.std.specs.Options.{isSome}
 use Rattle.std.specs.shelf.Lists.{kept-by}
 use Rattle.refusals.specs.declared.refusal.Refusal.{Refusal}
-use Rattle.refusals.specs.declared.refusal.Refusal.the-variants.{NoSuchTemplate, PolicyIdConflict, NotLinkError, UnlinkingError, RemovePolicyNoLinkError, RemovePolicyNoTemplateError, NotTemplateError, RemoveTemplateNoTemplateError, RemoveTemplateWithLinksError, Slotless, Full}
-use Rattle.refusals.specs.declared.refusal.Table.the-variants.{Policies}
-use Rattle.policy.specs.Known.{and-then, names-known, values-names}
+use Rattle.refusals.specs.declared.refusal.Refusal.the-variants.{SlotCacheMismatch, Occupied, NoSuchTemplate, PolicyIdConflict, NotLinkError, UnlinkingError, RemovePolicyNoLinkError, RemovePolicyNoTemplateError, NotTemplateError, RemoveTemplateNoTemplateError, RemoveTemplateWithLinksError, Slotless, Full}
+use Rattle.refusals.specs.declared.refusal.Table.the-variants.{Templates, Policies}
+use Rattle.policy.specs.Known.{and-then, names-known, values-names, template-known}
+use Rattle.policy.specs.Mentions.{condition-slots}
+use Rattle.clauses.specs.Book.{Clause}
 use Rattle.policy.specs.Arity.{Parts, bindable}
 use Rattle.policy.specs.declared.values.SlotEnv.{SlotEnv}
 use Rattle.policy.specs.declared.template.Template.{Template}
@@ -64,6 +66,26 @@ get-answer names m id = and-then (names-known names (id ∷ [])) (Ok (in-force m
 -- `get_template`: the template of an id.
 abbrev pub get-template-answer : ℕ → Maps → ℕ → Result (Option Template) Refusal
 get-template-answer names m id = and-then (names-known names (id ∷ [])) (Ok (template-at m id))
+
+-- Refusal 9 of a template whose slots are not its condition's.
+abbrev pub slots-cached : {C : Type 0} → List (Clause C) → Template → Result (Unit {0}) Refusal
+slots-cached cs t = refuse-if (not (eqb (t .slots .bits) (condition-slots cs t .bits))) (SlotCacheMismatch (t .id))
+
+-- `add_template`: 1 and 2, 9, 10, 25 and 27.
+abbrev pub add-template-answer : {C : Type 0} → ℕ → List (Clause C) → Maps → Template → Result (Unit {0}) Refusal
+add-template-answer names cs m t =
+    and-then (template-known names cs t)
+    (and-then (slots-cached cs t)
+    (and-then (refuse-if (bound m (t .id)) (Occupied (t .id)))
+    (and-then (refuse-if (not (has-slots t)) (Slotless (t .id)))
+    (refuse-if (not (has-room 64 (m .templates))) (Full Templates)))))
+
+-- The maps with one template more, last among the templates.
+abbrev pub with-template : Template → Maps → Maps
+with-template t m = record { templates = m .templates ++ t ∷ []; policies = m .policies; members = m .members }
+
+abbrev pub add-template-after : {C : Type 0} → ℕ → List (Clause C) → Maps → Template → Maps
+add-template-after names cs m t = if-accepted (add-template-answer names cs m t) (with-template t m) m
 
 -- The link of a template: 12, 13, 25 and 27; else the new policy.
 abbrev pub linked-answer : Maps → ℕ → SlotEnv → Template → Result Parts Refusal

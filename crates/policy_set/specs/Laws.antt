@@ -51,3 +51,7 @@ TemplateRemoval before after id answer = Cases answer (λ t. Removes before afte
 abbrev pub Linking : Maps → Maps → ℕ → ℕ → Result Parts Refusal → Type 0
 Linking before after t new answer =
     Cases answer (λ p. Adds before after new (policy p) (record { policy = new; template = t } ∷ [])) (Refused before after)
+
+-- A new template: its id names it.
+abbrev pub TemplateAddition : Maps → Maps → Template → Result (Unit {0}) Refusal → Type 0
+TemplateAddition before after t answer = Cases answer (λ _. Adds before after (t .id) (template t) []) (Refused before after)

@@ -6,6 +6,7 @@ use crate::tables::Members;
 use crate::tables::Policies;
 use crate::tables::Templates;
 
+pub mod additions;
 pub mod links;
 pub(crate) mod reads;
 pub mod removals;
