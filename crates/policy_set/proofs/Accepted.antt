@@ -14,7 +14,7 @@ use Rattle.std.specs.declared.result.Result.{Result}
 use Rattle.std.specs.declared.result.Result.the-variants.{Ok, Err}
 use Rattle.refusals.specs.declared.refusal.Refusal.{Refusal}
 use Rattle.refusals.specs.declared.refusal.Refusal.the-variants.{Occupied, NoSuchTemplate, PolicyIdConflict, NotLinkError, UnlinkingError, NotTemplateError, RemoveTemplateNoTemplateError, RemoveTemplateWithLinksError, Slotless, Full}
-use Rattle.refusals.specs.declared.refusal.Table.the-variants.{Policies}
+use Rattle.refusals.specs.declared.refusal.Table.the-variants.{Templates, Policies}
 use Rattle.policy.specs.Arity.{Parts, bindable}
 use Rattle.policy.specs.Known.{and-then, names-known, values-names, template-known}
 use Rattle.policy.specs.Mentions.{condition-slots}
@@ -24,7 +24,7 @@ use Rattle.policy.specs.declared.values.SlotEnv.{SlotEnv}
 use Rattle.policy_set.specs.Tables.{has-room}
 use Rattle.policy_set.specs.Maps.{Maps, template-at, row-at, in-force, bound}
 use Rattle.policy_set.specs.Sound.{has-slots}
-use Rattle.policy_set.specs.Answers.{refuse-if, slots-cached, add-template-answer, found-then, no-rows, reverse-set, linked-answer, link-answer, unlink-answer, remove-template-answer}
+use Rattle.policy_set.specs.Answers.{refuse-if, slots-cached, add-template-answer, add-static-answer, found-then, no-rows, reverse-set, linked-answer, link-answer, unlink-answer, remove-template-answer}
 use Rattle.policy_set.proofs.Lookups.{is-none}
 
 -- a test that accepted, and what came after it
@@ -70,6 +70,28 @@ new-template names cs m t e =
       cached = cached-slots cs t (b .0);
       has-slots = not-false _ (not-refused (not (has-slots t)) _ (d .0));
       room = has-place 64 (m .templates) _ (sym (d .1)) }
+
+-- what holds where a static policy is added
+pub record NewStatic {C : Type 0} (cs : List (Clause C)) (m : Maps) (t : Template) : Type 0 where
+  pub template-free : template-at m (t .id) ≡ None
+  pub policy-free : row-at m (t .id) ≡ None
+  pub cached : t .slots .bits ≡ condition-slots cs t .bits
+  pub template-room : length (m .templates) < 64
+  pub policy-room : length (m .policies) < 256
+
+pub new-static : {C : Type 0} (names : ℕ) (cs : List (Clause C)) (m : Maps) (t : Template) → Ok tt ≡ add-static-answer names cs m t → NewStatic cs m t
+new-static names cs m t e =
+    let a = accepted-then (template-known names cs t) _ tt e in
+    let b = accepted-then (slots-cached cs t) _ tt (a .1) in
+    let c = accepted-then (refuse-if (bound m (t .id)) (Occupied (t .id))) _ tt (b .1) in
+    let d = accepted-then (refuse-if (not (has-room 64 (m .templates))) (Full Templates)) _ tt (c .1) in
+    let f = free m (t .id) _ (c .0) in
+    record {
+      template-free = f .0;
+      policy-free = f .1;
+      cached = cached-slots cs t (b .0);
+      template-room = has-place 64 (m .templates) _ (d .0);
+      policy-room = has-place 256 (m .policies) _ (sym (d .1)) }
 
 -- what holds where a link is made
 pub record Linkable (m : Maps) (new : ℕ) (values : SlotEnv) (t : Template) (p : Parts) : Type 0 where

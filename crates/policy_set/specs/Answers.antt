@@ -87,6 +87,37 @@ with-template t m = record { templates = m .templates ++ t ∷ []; policies = m 
 abbrev pub add-template-after : {C : Type 0} → ℕ → List (Clause C) → Maps → Template → Maps
 add-template-after names cs m t = if-accepted (add-template-answer names cs m t) (with-template t m) m
 
+-- The maps with one policy more, last among the policies and among the members.
+abbrev pub with-policy : PolicyRow → Maps → Maps
+with-policy r m = record {
+  templates = m .templates;
+  policies = m .policies ++ r ∷ [];
+  members = m .members ++ member r ∷ [] }
+
+-- `add_static`: 1 and 2, 9, 10 and 27.
+abbrev pub add-static-answer : {C : Type 0} → ℕ → List (Clause C) → Maps → Template → Result (Unit {0}) Refusal
+add-static-answer names cs m t =
+    and-then (template-known names cs t)
+    (and-then (slots-cached cs t)
+    (and-then (refuse-if (bound m (t .id)) (Occupied (t .id)))
+    (and-then (refuse-if (not (has-room 64 (m .templates))) (Full Templates))
+    (refuse-if (not (has-room 256 (m .policies))) (Full Policies)))))
+
+-- The policy that a static policy is.
+abbrev pub static-parts : Template → Parts
+static-parts t = record { template = t; link = None; values = record { principal = None; resource = None } }
+
+-- The id of a policy: its link id, or its template's.
+abbrev pub id-of : Parts → ℕ
+id-of p = elim (p .link) [ None ↦ p .template .id | Some id ↦ id ]
+
+-- The row of a policy.
+abbrev pub row-for : Parts → PolicyRow
+row-for p = record { id = id-of p; template = p .template .id; link = isSome (p .link); values = p .values }
+
+abbrev pub add-static-after : {C : Type 0} → ℕ → List (Clause C) → Maps → Template → Maps
+add-static-after names cs m t = if-accepted (add-static-answer names cs m t) (with-policy (row-for (static-parts t)) (with-template t m)) m
+
 -- The link of a template: 12, 13, 25 and 27; else the new policy.
 abbrev pub linked-answer : Maps → ℕ → SlotEnv → Template → Result Parts Refusal
 linked-answer m new values t =
@@ -101,13 +132,6 @@ abbrev pub link-answer : ℕ → Maps → ℕ → ℕ → SlotEnv → Result Par
 link-answer names m template new values =
     and-then (names-known names (template ∷ new ∷ values-names values))
     (found-then (NoSuchTemplate template) (template-at m template) (linked-answer m new values))
-
--- The maps with one policy more, last among the policies and among the members.
-abbrev pub with-policy : PolicyRow → Maps → Maps
-with-policy r m = record {
-  templates = m .templates;
-  policies = m .policies ++ r ∷ [];
-  members = m .members ++ member r ∷ [] }
 
 -- The row of a link.
 abbrev pub link-row : ℕ → ℕ → SlotEnv → PolicyRow

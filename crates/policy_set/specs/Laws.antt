@@ -15,7 +15,8 @@ use Rattle.policy_set.specs.Tables.{erase, times}
 use Rattle.policy_set.specs.Rows.{member-id}
 use Rattle.policy_set.specs.Maps.{Maps, Thing, bound, named}
 use Rattle.policy_set.specs.Maps.Thing.{template, policy}
-use Rattle.policy_set.specs.Answers.{is-under, reverse-set}
+use Rattle.policy_set.specs.Sound.{member}
+use Rattle.policy_set.specs.Answers.{is-under, reverse-set, static-parts, row-for}
 
 -- One thing fewer: the id named it, and is bound nowhere now; every other id names what it named.
 pub record Removes (before after : Maps) (id : ℕ) (it : Thing) : Type 0 where
@@ -55,3 +56,8 @@ Linking before after t new answer =
 -- A new template: its id names it.
 abbrev pub TemplateAddition : Maps → Maps → Template → Result (Unit {0}) Refusal → Type 0
 TemplateAddition before after t answer = Cases answer (λ _. Adds before after (t .id) (template t) []) (Refused before after)
+
+-- A new static policy: its id names it, and it is its template's only member.
+abbrev pub StaticAddition : Maps → Maps → Template → Result (Unit {0}) Refusal → Type 0
+StaticAddition before after t answer =
+    Cases answer (λ _. Adds before after (t .id) (policy (static-parts t)) (member (row-for (static-parts t)) ∷ [])) (Refused before after)
