@@ -3,6 +3,7 @@ use mathlib.Core.Path.{_≡_, refl, sym, _∙_, ap}
 use mathlib.Core.List.{List, [], _∷_, _++_}
 use mathlib.Core.Bool.{Bool, true, false, cond}
 use Prim.Native.Nat.{ℕ}
+use native.Mathlib.Omega.{arith}
 use lib.Dec.{ltb}
 use Rattle.std.specs.declared.result.Result.{Result}
 use Rattle.std.specs.declared.result.Result.the-variants.{Ok, Err}
@@ -56,3 +57,8 @@ template-tested count t =
 -- The exit of a `?`.
 pub broke : {X : Type 0} {e : Refusal} (r : Result X Refusal) → ErrBy r (λ y. y ≡ e) → r ≡ Err e
 broke r h = let p = err-from-errBy r h in p .1 ∙ ap Err (p .2)
+
+-- Where all tests accept, the last does.
+pub last-accepts : {X : Type 0} {x : X} (a : Result (Unit {0}) Refusal) (r : Result X Refusal) → Ok x ≡ and-then a r → Ok x ≡ r
+last-accepts (Ok u) r h = h
+last-accepts (Err e) r h = absurd (let z : _≡_ {A = ℕ} 0 1 = cc in omega arith)

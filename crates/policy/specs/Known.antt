@@ -49,9 +49,13 @@ template-names t =
 abbrev pub values-names : SlotEnv → List ℕ
 values-names env = optional entity-names (env .principal) ++ optional entity-names (env .resource)
 
--- The names of a policy: its template's, its link id, its values'.
+-- The names of a template, of a link id if there is one, and of values.
+abbrev pub parts-names : Template → Option ℕ → SlotEnv → List ℕ
+parts-names t link env = template-names t ++ (optional (λ n. n ∷ []) link ++ values-names env)
+
+-- The names of a policy in record order.
 abbrev pub policy-names : Policy → List ℕ
-policy-names p = template-names (p .template) ++ (optional (λ n. n ∷ []) (p .link) ++ values-names (p .values))
+policy-names p = parts-names (p .template) (p .link) (p .values)
 
 -- Refusal 1 of the first name that is not below the count.
 abbrev pub names-known : ℕ → List ℕ → Result (Unit {0}) Refusal

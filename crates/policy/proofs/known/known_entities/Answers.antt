@@ -5,11 +5,10 @@ use lib.ListN.{length, drop, getD}
 use Rattle.std.specs.declared.result.Result.{Result}
 use Rattle.std.specs.declared.result.Result.the-variants.{Ok, Err}
 use Rattle.std.proofs.shelf.Lists.{at-drop-more, at-drop-all}
-use Rattle.std.proofs.shelf.Results.{err-from-errBy}
 use Rattle.refusals.specs.declared.refusal.Refusal.{Refusal}
 use Rattle.names.specs.declared.entity.EntityUID.{EntityUID}
 use Rattle.policy.specs.Known.{names-known, entity-names, entities-names, and-then}
-use Rattle.policy.proofs.Testing.{names-append}
+use Rattle.policy.proofs.Testing.{broke, names-append}
 use Rattle.policy.proofs.known.known_entities.Needs as need
 
 -- What is left from an entity on: its names, then the names of the rest.
@@ -23,8 +22,7 @@ onward count list i r h e =
 
 pub returns-in-Break-known-entity : need.returns-in-Break-known-entity
 returns-in-Break-known-entity c =
-    let p = err-from-errBy (c .from-residual .result) (c .from-residual .ensures .1) in
-    p .1 ∙ ap Err (p .2)
+    broke (c .from-residual .result) (c .from-residual .ensures .1)
     ∙ onward (c .args .count) (c .args .list .now) (c .loop-e .e-index) (Err (c .in-Break-known-entity .field-0 .0)) (c .loop-e-test .taken) (c .in-Break-known-entity .ensures tt)
     ∙ c .loop-e .inv
 
