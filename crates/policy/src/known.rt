@@ -41,7 +41,7 @@ fn known_reference(count: usize, r: EntityReference) -> Result<(), Refusal>
     }
 }
 
-fn known_scope(count: usize, s: PrincipalOrResourceConstraint) -> Result<(), Refusal>
+pub fn known_scope(count: usize, s: PrincipalOrResourceConstraint) -> Result<(), Refusal>
     ensures { λ r. ⌜ r ≡ names-known count (scope-names s) ⌝ }
 {
     match s {
@@ -85,7 +85,7 @@ pub fn known_names(count: usize, t: &Template) -> Result<(), Refusal>
     known_scope(count, t.resource)
 }
 
-fn known_value(count: usize, value: Option<EntityUID>) -> Result<(), Refusal>
+pub fn known_value(count: usize, value: Option<EntityUID>) -> Result<(), Refusal>
     ensures { λ r. ⌜ r ≡ names-known count (optional entity-names value) ⌝ }
 {
     match value {
