@@ -16,4 +16,6 @@ pub mod Mentions
 pub mod Filled
 pub mod Answer
 pub mod Evaluation
+pub mod Listing
+pub mod Making
 pub mod Calls

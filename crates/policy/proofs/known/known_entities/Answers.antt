@@ -7,8 +7,8 @@ use Rattle.std.specs.declared.result.Result.the-variants.{Ok, Err}
 use Rattle.std.proofs.shelf.Lists.{at-drop-more, at-drop-all}
 use Rattle.refusals.specs.declared.refusal.Refusal.{Refusal}
 use Rattle.names.specs.declared.entity.EntityUID.{EntityUID}
-use Rattle.policy.specs.Known.{names-known, entity-names, entities-names, and-then}
-use Rattle.policy.proofs.Testing.{broke, names-append}
+use Rattle.policy.specs.Known.{name-known, names-known, entity-names, entities-names, and-then}
+use Rattle.policy.proofs.Testing.{broke, turn-append}
 use Rattle.policy.proofs.known.known_entities.Needs as need
 
 -- What is left from an entity on: its names, then the names of the rest.
@@ -17,7 +17,7 @@ onward : (count : ℕ) (list : List EntityUID) (i : ℕ) (r : Result (Unit {0}) 
     → and-then r (names-known count (entities-names (drop (i + 1) list))) ≡ names-known count (entities-names (drop i list))
 onward count list i r h e =
     ap (λ (x : Result (Unit {0}) Refusal). and-then x (names-known count (entities-names (drop (i + 1) list)))) e
-    ∙ sym (names-append count (entity-names (getD list i (record { ty = 0; eid = 0 }))) (entities-names (drop (i + 1) list)))
+    ∙ sym (turn-append (name-known count) (entity-names (getD list i (record { ty = 0; eid = 0 }))) (entities-names (drop (i + 1) list)))
     ∙ sym (at-drop-more (λ (es : List EntityUID). names-known count (entities-names es)) list i (record { ty = 0; eid = 0 }) h)
 
 pub returns-in-Break-known-entity : need.returns-in-Break-known-entity

@@ -4,14 +4,14 @@ use Prim.Native.Nat.{ℕ}
 use Rattle.std.specs.declared.option.Option.{Option}
 use Rattle.policy.specs.declared.values.SlotEnv.{SlotEnv}
 use Rattle.policy.specs.declared.template.Template.{Template}
-use Rattle.policy.specs.Known.{optional, names-known, and-then, template-names, values-names, parts-names}
-use Rattle.policy.proofs.Testing.{broke, stops, passes, names-three}
+use Rattle.policy.specs.Known.{optional, name-known, names-known, and-then, template-names, values-names, parts-names}
+use Rattle.policy.proofs.Testing.{broke, stops, passes, turn-three}
 use Rattle.policy.proofs.known.known_parts.Needs as need
 
 tested : (count : ℕ) (t : Template) (link : Option ℕ) (env : SlotEnv)
     → and-then (names-known count (template-names t)) (and-then (names-known count (optional (λ n. n ∷ []) link)) (names-known count (values-names env)))
     ≡ names-known count (parts-names t link env)
-tested count t link env = names-three count (template-names t) (optional (λ n. n ∷ []) link) (values-names env)
+tested count t link env = turn-three (name-known count) (template-names t) (optional (λ n. n ∷ []) link) (values-names env)
 
 pub returns-in-Break-known-names : need.returns-in-Break-known-names
 returns-in-Break-known-names c =
