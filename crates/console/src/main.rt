@@ -1,9 +1,12 @@
 // Reads a script of calls from standard input and prints the answers.
+mod actions;
 mod args;
+mod clause_calls;
 mod name_calls;
 mod refused;
 mod session;
 mod stop;
+mod terms;
 
 use session::Session;
 use std::error::AnyError;

@@ -1,4 +1,5 @@
 use crate::args::Args;
+use crate::clause_calls::Clauses;
 use crate::name_calls::NameCall;
 use crate::refused::refused;
 use crate::stop::Stop;
@@ -16,13 +17,17 @@ use std::alloc::Global;
 pub struct Session {
     heap: Global,
     book: NameBook,
+    clauses: Clauses,
 }
 
 impl Session {
     // A run on empty books; none for want of memory.
     pub fn new(heap: Global) -> Option<Session> {
         let book = NameBook::new(heap, PLACES, ROOM)?;
-        Some(Session { heap, book })
+        let Ok(clauses) = Clauses::new(heap) else {
+            return None;
+        };
+        Some(Session { heap, book, clauses })
     }
 
     // Makes the call of a line; no answer to a blank line or a comment.
@@ -38,7 +43,11 @@ impl Session {
             let answer = call.make(self.heap, &mut self.book)?;
             return Ok(Some(answer));
         }
-        Err(Stop::Wrong(Wrong::UnknownCall))
+        match head {
+            b"clause" => Ok(Some(self.clauses.clause(self.heap, &mut args)?)),
+            b"tree" => Ok(Some(self.clauses.tree(self.heap, &mut args, &mut self.book)?)),
+            _ => Err(Stop::Wrong(Wrong::UnknownCall)),
+        }
     }
 
     // The answer to a line, which may end with a line feed.

@@ -1,6 +1,7 @@
 use refusals::refusal::Refusal;
 use refusals::refusal::UnknownName;
 use std::alloc::AllocError;
+use std::alloc::Refused;
 use std::fmt;
 
 // What is wrong with a line that is no call.
@@ -11,6 +12,12 @@ pub enum Wrong {
     ExtraWord,
     BadPercent,
     BadNumber,
+    BadEntity,
+    BadScope,
+    BadEffect,
+    BadNode,
+    OtherBook,
+    LateClause,
 }
 
 pub impl fmt::Display for Wrong as WrongDisplay {
@@ -22,6 +29,12 @@ pub impl fmt::Display for Wrong as WrongDisplay {
                 Wrong::ExtraWord => "too many words",
                 Wrong::BadPercent => "bad percent code",
                 Wrong::BadNumber => "no number from 0 to 65535",
+                Wrong::BadEntity => "an entity is TYPE/EID",
+                Wrong::BadScope => "no such scope",
+                Wrong::BadEffect => "an effect is permit or forbid",
+                Wrong::BadNode => "no such node",
+                Wrong::OtherBook => "a script has clauses or trees, not both",
+                Wrong::LateClause => "clauses come before the first call on a set",
             },
         )
     }
@@ -58,6 +71,12 @@ pub impl From<UnknownName> for Stop as StopFromUnknownName {
 
 pub impl From<AllocError> for Stop as StopFromAllocError {
     fn from(_: AllocError) -> Stop {
+        Stop::NoMemory
+    }
+}
+
+pub impl<T: Drop> From<Refused<T>> for Stop as StopFromRefused {
+    fn from(_: Refused<T>) -> Stop {
         Stop::NoMemory
     }
 }
