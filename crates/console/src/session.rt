@@ -28,7 +28,7 @@ impl Session {
     // Makes the call of a line; no answer to a blank line or a comment.
     fn call(&mut self, line: &[u8]) -> Result<Option<String>, Stop> {
         let mut args = Args::new(self.heap, line);
-        let Some(head) = args.head() else {
+        let Some(head) = args.next() else {
             return Ok(None);
         };
         if head.starts_with(b"#") {
