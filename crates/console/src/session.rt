@@ -1,5 +1,5 @@
 use crate::args::Args;
-use crate::name_calls::NameCall;
+use crate::name_calls::NameWord;
 use crate::refused::refused;
 use crate::stop::Stop;
 use crate::stop::StopFromAllocError;
@@ -34,7 +34,8 @@ impl Session {
         if head.starts_with(b"#") {
             return Ok(None);
         }
-        if let Some(call) = NameCall::read(head, &mut args)? {
+        if let Some(first) = NameWord::of(head) {
+            let call = first.read(&mut args)?;
             let answer = call.make(self.heap, &mut self.book)?;
             return Ok(Some(answer));
         }
