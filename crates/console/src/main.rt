@@ -1,6 +1,7 @@
 // Reads a script of calls from standard input and prints the answers.
 mod args;
 mod name_calls;
+mod print;
 mod refused;
 mod session;
 mod stop;
