@@ -62,7 +62,7 @@ fn node(heap: Global, word: &[u8], book: &mut NameBook) -> Result<Node, Stop> {
 fn nodes(heap: Global, args: &mut Args, book: &mut NameBook) -> Result<Vec<Node>, Stop> {
     let mut list = Vec::new(heap);
     for _ in 0..u64::MAX {
-        let Some(word) = args.head() else {
+        let Some(word) = args.next() else {
             break;
         };
         list.push(node(heap, word, book)?)?;

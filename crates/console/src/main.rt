@@ -3,9 +3,11 @@ mod actions;
 mod args;
 mod clause_calls;
 mod name_calls;
+mod print;
 mod refused;
 mod session;
 mod stop;
+mod template_calls;
 mod terms;
 
 use session::Session;

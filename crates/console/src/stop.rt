@@ -1,3 +1,8 @@
+ghost use mathlib.Core.Path.{_≡_};
+ghost use lib.Chars.{codes};
+ghost use Rattle.std.specs.declared.option.Option.the-variants.{Some as Present};
+ghost use Rattle.refusals.specs.declared.refusal.Refusal.the-variants.{UnknownName as Unlisted};
+ghost use Rattle.console.specs.declared.stop.Stop.the-variants.{Wrong as Broken, Refused as Declined, NoMemory as Exhausted};
 use refusals::refusal::Refusal;
 use refusals::refusal::UnknownName;
 use std::alloc::AllocError;
@@ -52,24 +57,32 @@ pub enum Stop {
 }
 
 pub impl From<Wrong> for Stop as StopFromWrong {
+    ghost converts = { λ wrong r. r ≡ Broken wrong };
+
     fn from(wrong: Wrong) -> Stop {
         Stop::Wrong(wrong)
     }
 }
 
 pub impl From<Refusal> for Stop as StopFromRefusal {
+    ghost converts = { λ refusal r. r ≡ Declined refusal };
+
     fn from(refusal: Refusal) -> Stop {
         Stop::Refused(refusal)
     }
 }
 
 pub impl From<UnknownName> for Stop as StopFromUnknownName {
+    ghost converts = { λ unknown r. r ≡ Declined (Unlisted (unknown .number)) };
+
     fn from(unknown: UnknownName) -> Stop {
         Stop::Refused(Refusal::UnknownName(unknown.number))
     }
 }
 
 pub impl From<AllocError> for Stop as StopFromAllocError {
+    ghost converts = { λ _ r. r ≡ Exhausted };
+
     fn from(_: AllocError) -> Stop {
         Stop::NoMemory
     }
