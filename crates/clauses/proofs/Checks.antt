@@ -3,7 +3,7 @@ use mathlib.Core.Path.{_≡_, refl, sym, _∙_, ap}
 use mathlib.Core.List.{List, [], _∷_, _++_}
 use mathlib.Core.Bool.{Bool, true, false, cond}
 use mathlib.Core.Logic.{inl, inr}
-use Prim.Native.Nat.{ℕ, _+_, _<_}
+use Prim.Native.Nat.{ℕ, _+_, _<_, _≤_}
 use native.Mathlib.Omega.{arith}
 use lib.ListN.{length, getD, drop}
 use Rattle.std.specs.shelf.Lists.{joined}
@@ -11,15 +11,16 @@ use Rattle.std.specs.Results.{valueOr}
 use Rattle.std.specs.declared.result.Result.{Result}
 use Rattle.std.specs.declared.result.Result.the-variants.{Ok, Err}
 use Rattle.std.proofs.shelf.Lists.{getD-past, at-drop-more}
-use Rattle.std.proofs.shelf.Tests.{cases-lt}
+use Rattle.std.proofs.shelf.Tests.{cases-lt, le-leb}
 use Rattle.std.proofs.shelf.Ways.{same-from-decides}
 use Rattle.refusals.specs.declared.refusal.Refusal.{Refusal}
+use Rattle.refusals.specs.declared.refusal.Refusal.the-variants.{TooLong}
 use Rattle.names.specs.declared.type_name.Scan.the-variants.{Start}
 use Rattle.names.specs.Scan.{scanned, accepts}
 use Rattle.names.specs.TypeName.{TypeName}
 use Rattle.names.specs.Names.{Told}
 use Rattle.names.proofs.TypeNames.{scan-decides}
-use Rattle.clauses.specs.NameChecks.{and-then, in-turn}
+use Rattle.clauses.specs.Checks.{passed-if, and-then, in-turn, length-check}
 
 -- The answer on a type's name; a number without a text has no type name.
 pub type-told : (texts : List (List ℕ)) (n : ℕ) (answer : Result Bool Refusal) → Told texts n TypeName answer
@@ -62,3 +63,9 @@ module _ {N : Type 0} (test : ℕ → Result (Unit {0}) Refusal) (held : N → L
       ∙ sym (in-turn-append test (held (getD ns i d)) (joined held (drop (i + 1) ns)))
       ∙ sym (at-drop-more (λ (l : List N). in-turn test (joined held l)) ns i d h)
       ∙ inv
+
+-- A list that is short enough leaves the answer to the next test.
+pub passes-then : {X Y : Type 0} (most : ℕ) (items : List X) (next answer : Result Y Refusal) → length items ≤ most → answer ≡ next
+    → answer ≡ and-then (length-check most items) next
+passes-then most items next answer h e =
+    e ∙ sym (ap (λ (told : Bool). and-then (passed-if told (TooLong (length items))) next) (le-leb (length items) most h))

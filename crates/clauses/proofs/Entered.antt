@@ -19,11 +19,12 @@ use Rattle.names.specs.Scan.{scanned, accepts}
 use Rattle.names.proofs.TypeNames.{scan-decides}
 use Rattle.clauses.specs.declared.tree.node.Node.{Node}
 use Rattle.clauses.specs.Entering.{next-number}
-use Rattle.clauses.specs.NameChecks.{passed-if, and-then, in-turn, name-check, type-check, Known, Typed, First}
+use Rattle.clauses.specs.Checks.{passed-if, and-then, in-turn, length-check}
+use Rattle.clauses.specs.NameChecks.{name-check, type-check, Known, Typed, First}
 use Rattle.clauses.specs.Nodes.{takes}
 use Rattle.clauses.specs.Shape.{shape}
 use Rattle.clauses.specs.Tree.{One, Lacking, Uneven}
-use Rattle.clauses.specs.TreeEntering.{names-in, types-in, misshapen, short, tree-check, tree-answer, TreeEntered}
+use Rattle.clauses.specs.TreeEntering.{names-in, types-in, misshapen, tree-check, tree-answer, TreeEntered}
 use Rattle.clauses.proofs.Rows.{judged}
 
 -- Two tests are passed when both are, and refuse what the first of them does.
@@ -169,7 +170,7 @@ module _ (texts : List (List ℕ)) (trees : List (List Node)) (nodes : List Node
   sources e h =
       elim (and-then-err (tree-check texts nodes) (next-number trees) e h) [
         | inr k ↦ source-other e BookFull (next-err (ltb (length trees) 256) (length trees) e k) (inr refl)
-        | inl k ↦ elim (and-then-err (short nodes) (and-then names-pass (and-then types-pass shape-pass)) e k) [
+        | inl k ↦ elim (and-then-err (length-check 64 nodes) (and-then names-pass (and-then types-pass shape-pass)) e k) [
           | inl s ↦ source-other e (TooLong (length nodes)) (refused-for (leb (length nodes) 64) (TooLong (length nodes)) e s) (inl refl)
           | inr s ↦ elim (and-then-err names-pass (and-then types-pass shape-pass) e s) [
             | inl n ↦ source-names e n
@@ -188,25 +189,34 @@ module _ (texts : List (List ℕ)) (trees : List (List Node)) (nodes : List Node
       → tree-answer texts trees nodes ≡ Ok (length trees)
   accepts-tree s n t o r =
       and-then-both (tree-check texts nodes) (next-number trees) (length trees)
-      (and-then-both (short nodes) (and-then names-pass (and-then types-pass shape-pass)) tt
+      (and-then-both (length-check 64 nodes) (and-then names-pass (and-then types-pass shape-pass)) tt
       (passes-for (leb (length nodes) 64) (TooLong (length nodes)) (le-leb (length nodes) 64 s))
       (and-then-both names-pass (and-then types-pass shape-pass) tt (all-pass (names-tests texts) (names-in nodes) n)
       (and-then-both types-pass shape-pass tt (all-pass (types-tests texts) (types-in nodes) t) (one-shape o))))
       (cond-true (ltb (length trees) 256) (Ok (length trees)) (Err BookFull) (lt-ltb (length trees) 256 r))
 
   accepted-tree : (n : ℕ) → tree-answer texts trees nodes ≡ Ok n
-      → (length nodes ≤ 64) × All (Known texts) (names-in nodes) × All (Typed texts) (types-in nodes) × One takes nodes × (length trees < 256)
+      → (n ≡ length trees) × (length nodes ≤ 64) × All (Known texts) (names-in nodes) × All (Typed texts) (types-in nodes) × One takes nodes × (length trees < 256)
   accepted-tree n h =
       let w = and-then-ok (tree-check texts nodes) (next-number trees) n h in
-      let s = and-then-ok (short nodes) (and-then names-pass (and-then types-pass shape-pass)) tt (w .0) in
+      let s = and-then-ok (length-check 64 nodes) (and-then names-pass (and-then types-pass shape-pass)) tt (w .0) in
       let k = and-then-ok names-pass (and-then types-pass shape-pass) tt (s .1) in
-      let t = and-then-ok types-pass shape-pass tt (k .1) in (
+      let t = and-then-ok types-pass shape-pass tt (k .1) in
+      let m = next-ok (ltb (length trees) 256) (length trees) n (w .1) in (
+        m .1,
         leb-true (length nodes) 64 (passed-for (leb (length nodes) 64) (TooLong (length nodes)) (s .0)),
         all-passed (names-tests texts) (names-in nodes) (k .0),
         all-passed (types-tests texts) (types-in nodes) (t .0),
         shape-one (t .1),
-        ltb-true (length trees) 256 (next-ok (ltb (length trees) 256) (length trees) n (w .1) .0),
+        ltb-true (length trees) 256 (m .0),
       )
+
+  -- The answer of a tree that is refused whatever the book holds, and of any other.
+  pub refused-by : (e : Refusal) → Err e ≡ tree-check texts nodes → Err e ≡ tree-answer texts trees nodes
+  refused-by e h = ap (λ (r : Result (Unit {0}) Refusal). and-then r (next-number trees)) h
+
+  pub numbered-by : (answer : Result ℕ Refusal) → Ok tt ≡ tree-check texts nodes → answer ≡ next-number trees → answer ≡ tree-answer texts trees nodes
+  numbered-by answer h e = e ∙ ap (λ (r : Result (Unit {0}) Refusal). and-then r (next-number trees)) h
 
   -- What the answer says.
   pub entered : (answer : Result ℕ Refusal) → answer ≡ tree-answer texts trees nodes → TreeEntered texts trees nodes answer

@@ -73,6 +73,7 @@ module _ {C : Type 0} (make : C → Clause C) where
     }
 
   -- The clauses after an answer are those of the contents after it.
-  pub listing-entered : (r : Result ℕ Refusal) (ts : List C) (t : C) → listing make (with-entered r ts t) ≡ with-entered r (listing make ts) (make t)
-  listing-entered (Ok n) ts t = listing-push ts t
-  listing-entered (Err refusal) ts t = refl
+  pub listing-entered : (r : Result ℕ Refusal) (before after : List C) (t : C) → after ≡ with-entered r before t
+      → listing make after ≡ with-entered r (listing make before) (make t)
+  listing-entered (Ok n) before after t e = ap (listing make) e ∙ listing-push before t
+  listing-entered (Err refusal) before after t e = ap (listing make) e

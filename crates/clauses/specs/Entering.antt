@@ -7,7 +7,8 @@ use lib.Dec.{ltb}
 use Rattle.std.specs.declared.result.Result.{Result}
 use Rattle.std.specs.declared.result.Result.the-variants.{Ok, Err}
 use Rattle.refusals.specs.declared.refusal.Refusal.{Refusal}
-use Rattle.refusals.specs.declared.refusal.Refusal.the-variants.{TooLong, BookFull}
+use Rattle.refusals.specs.declared.refusal.Refusal.the-variants.{BookFull}
+use Rattle.clauses.specs.Checks.{and-then, length-check}
 
 -- The next number, or refusal 4 where all 256 are taken.
 abbrev pub next-number : {C : Type 0} → List C → Result ℕ Refusal
@@ -20,4 +21,4 @@ with-entered (Err refusal) held new = held
 
 -- What entering a sealed text answers: refusal 3 above 512 bytes, else the next number.
 abbrev pub text-answer : List (List ℕ) → List ℕ → Result ℕ Refusal
-text-answer texts text = cond (ltb 512 (length text)) (Err (TooLong (length text))) (next-number texts)
+text-answer texts text = and-then (length-check 512 text) (next-number texts)

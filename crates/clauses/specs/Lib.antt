@@ -3,6 +3,7 @@ pub mod Tree
 pub mod Kept
 pub mod Slots
 pub mod Sealed
+pub mod Checks
 pub mod Entering
 pub mod SealedBooks
 pub mod Nodes

@@ -1,32 +1,17 @@
 -- Whether names are known, and whether they name types.
 use mathlib.Core.Path.{_≡_}
 use mathlib.Core.List.{List, [], _∷_, _++_}
-use mathlib.Core.Bool.{Bool, cond}
 use Prim.Native.Nat.{ℕ, _<_}
 use lib.ListN.{length, getD}
 use lib.Dec.{ltb}
 use Rattle.std.specs.shelf.Lists.{All}
 use Rattle.std.specs.declared.result.Result.{Result}
-use Rattle.std.specs.declared.result.Result.the-variants.{Ok, Err}
 use Rattle.refusals.specs.declared.refusal.Refusal.{Refusal}
 use Rattle.refusals.specs.declared.refusal.Refusal.the-variants.{UnknownName, BadTypeName}
 use Rattle.names.specs.declared.type_name.Scan.the-variants.{Start}
 use Rattle.names.specs.Scan.{scanned, accepts}
 use Rattle.names.specs.TypeName.{TypeName}
-
--- Passed where the test says yes, else refused.
-abbrev pub passed-if : Bool → Refusal → Result (Unit {0}) Refusal
-passed-if told refusal = cond told (Ok tt) (Err refusal)
-
--- One test, and then another.
-abbrev pub and-then : {X : Type 0} → Result (Unit {0}) Refusal → Result X Refusal → Result X Refusal
-and-then (Ok u) next = next
-and-then (Err refusal) next = Err refusal
-
--- The same test of each in turn.
-abbrev pub in-turn : {X : Type 0} → (X → Result (Unit {0}) Refusal) → List X → Result (Unit {0}) Refusal
-in-turn test [] = Ok tt
-in-turn test (x ∷ xs) = and-then (test x) (in-turn test xs)
+use Rattle.clauses.specs.Checks.{passed-if}
 
 -- Refusal 1 for a number that is not below the count.
 abbrev pub name-check : ℕ → ℕ → Result (Unit {0}) Refusal

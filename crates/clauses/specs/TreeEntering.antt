@@ -4,15 +4,15 @@ use mathlib.Core.List.{List}
 use mathlib.Core.Logic.{_⊎_}
 use Prim.Native.Nat.{ℕ, _<_, _≤_}
 use lib.ListN.{length}
-use lib.Dec.{leb}
 use Rattle.std.specs.shelf.Lists.{All, joined}
 use Rattle.std.specs.declared.result.Result.{Result}
 use Rattle.std.specs.declared.result.Result.the-variants.{Ok, Err}
 use Rattle.refusals.specs.declared.refusal.Refusal.{Refusal}
-use Rattle.refusals.specs.declared.refusal.Refusal.the-variants.{UnknownName, TooLong, BadTypeName, BadClause}
+use Rattle.refusals.specs.declared.refusal.Refusal.the-variants.{UnknownName, BadTypeName, BadClause}
 use Rattle.clauses.specs.declared.tree.node.Node.{Node}
 use Rattle.clauses.specs.Entering.{next-number}
-use Rattle.clauses.specs.NameChecks.{passed-if, and-then, in-turn, name-check, type-check, Known, Typed, First}
+use Rattle.clauses.specs.Checks.{and-then, in-turn, length-check}
+use Rattle.clauses.specs.NameChecks.{name-check, type-check, Known, Typed, First}
 use Rattle.clauses.specs.Nodes.{takes, node-names, node-types}
 use Rattle.clauses.specs.Shape.{shape}
 use Rattle.clauses.specs.Tree.{One, Lacking, Uneven}
@@ -22,21 +22,18 @@ abbrev pub misshapen : Result (Unit {0}) ℕ → Result (Unit {0}) Refusal
 misshapen (Ok u) = Ok tt
 misshapen (Err place) = Err (BadClause place)
 
--- The names that nodes hold, and the types among them, in order.
+-- The names that nodes hold, in order.
 abbrev pub names-in : List Node → List ℕ
 names-in nodes = joined node-names nodes
 
+-- The types among them, in order.
 abbrev pub types-in : List Node → List ℕ
 types-in nodes = joined node-types nodes
-
--- Refusal 3 above 64 nodes.
-abbrev pub short : List Node → Result (Unit {0}) Refusal
-short nodes = passed-if (leb (length nodes) 64) (TooLong (length nodes))
 
 -- What a tree is refused for whatever the book holds: 3, 1, 5 and 7 in this order.
 abbrev pub tree-check : List (List ℕ) → List Node → Result (Unit {0}) Refusal
 tree-check texts nodes =
-    and-then (short nodes)
+    and-then (length-check 64 nodes)
     (and-then (in-turn (name-check (length texts)) (names-in nodes))
     (and-then (in-turn (type-check texts) (types-in nodes))
     (misshapen (shape takes 0 0 nodes))))
@@ -50,7 +47,7 @@ pub record TreeEntered (texts : List (List ℕ)) (trees : List (List Node)) (nod
   pub accepts : length nodes ≤ 64 → All (Known texts) (names-in nodes) → All (Typed texts) (types-in nodes) → One takes nodes → length trees < 256
       → answer ≡ Ok (length trees)
   pub accepted : (n : ℕ) → answer ≡ Ok n
-      → (length nodes ≤ 64) × All (Known texts) (names-in nodes) × All (Typed texts) (types-in nodes) × One takes nodes × (length trees < 256)
+      → (n ≡ length trees) × (length nodes ≤ 64) × All (Known texts) (names-in nodes) × All (Typed texts) (types-in nodes) × One takes nodes × (length trees < 256)
   pub unknown : (n : ℕ) → answer ≡ Err (UnknownName n) → First (Known texts) (names-in nodes) n
   pub untyped : (t : ℕ) → answer ≡ Err (BadTypeName t) → First (Typed texts) (types-in nodes) t
   pub uneven : (place : ℕ) → answer ≡ Err (BadClause place) → Lacking takes nodes place ⊎ Uneven takes nodes place

@@ -1,7 +1,9 @@
 ghost use mathlib.Core.Path.{_≡_};
 ghost use lib.ListN.{length};
+ghost use Rattle.std.specs.Orderings.{Decides};
+ghost use Rattle.std.specs.Results.{isOk};
 ghost use Rattle.names.specs.Book.{texts};
-ghost use Rattle.clauses.specs.NameChecks.{name-check, type-check};
+ghost use Rattle.clauses.specs.NameChecks.{name-check, type-check, Typed};
 use names::kept::NameBook;
 use refusals::NameNumber;
 use refusals::refusal::Refusal;
@@ -19,7 +21,8 @@ pub fn check_name(names: &NameBook, name: NameNumber) -> Result<(), Refusal>
 
 // Refusal 5 unless the name has a text that is a type name.
 pub fn check_type(names: &NameBook, name: NameNumber) -> Result<(), Refusal>
-    ensures { λ r. ⌜ r ≡ type-check (texts (now (names .entry))) name ⌝ }
+    ensures answer { λ r. ⌜ r ≡ type-check (texts (now (names .entry))) name ⌝ }
+    ensures typed { λ r. ⌜ Decides (isOk r) (Typed (texts (now (names .entry))) name) ⌝ }
 {
     if names.is_type_name(name).unwrap_or(false) {
         Ok(())

@@ -13,6 +13,7 @@ use Rattle.refusals.specs.declared.slots.SlotSet.{SlotSet}
 use Rattle.refusals.specs.declared.refusal.Refusal.{Refusal}
 use Rattle.refusals.specs.declared.refusal.Refusal.the-variants.{ArityError}
 use Rattle.policy.specs.declared.values.SlotEnv.{SlotEnv}
+use Rattle.policy.specs.declared.bound.Policy.{Policy}
 use Rattle.policy.specs.Binding.{value-slots}
 use Rattle.policy.specs.Slots.{has, bound, set-of}
 use Rattle.policy.specs.Arity.{unbound, extra, bindable, Exact, Accepts-exact}
@@ -51,3 +52,13 @@ pub accepts-exact : (slots : SlotSet) (env : SlotEnv) → Accepts-exact slots en
 accepts-exact slots env =
     let t = taken (settled slots env) (ArityError (unbound slots env) (extra slots env)) in
     ((λ h. exact-slot slots env (sym t ∙ h)), λ x. t ∙ slot-exact slots env x)
+
+-- The values of a policy are exact.
+pub policy-exact : (p : Policy) → Exact (p .template .slots) (p .values)
+policy-exact p slot =
+    let env = p .values in
+    let e : set-of (isSome (env .principal)) (isSome (env .resource)) .bits ≡ p .template .slots .bits =
+    sym (value-sum (env .principal) (env .resource)) ∙ p .exact in
+    let b = set-bits (isSome (env .principal)) (isSome (env .resource)) in
+    elim slot as (λ s. has s (p .template .slots) ≡ bound env s)
+    [ Principal ↦ sym (ap (bit 1) e) ∙ b .0 | Resource ↦ sym (ap (bit 2) e) ∙ b .1 ]

@@ -1,61 +1,60 @@
--- The laws of filling.
-use mathlib.Core.Path.{_≡_, refl, sym, _∙_, subst}
+-- The laws of a filled policy.
+use mathlib.Core.Path.{_≡_, refl, sym, _∙_, ap}
 use mathlib.Core.List.{List}
-use mathlib.Core.Bool.{Bool, true, false}
-use Prim.Native.Nat.{ℕ}
+use mathlib.Core.Bool.{Bool, true, false, cond, _&&_}
 use Rattle.std.specs.Options.{isSome}
 use Rattle.std.specs.declared.option.Option.{Option}
-use Rattle.std.specs.declared.option.Option.the-variants.{Some, None}
-use Rattle.std.proofs.shelf.Tests.{false≢true}
+use Rattle.std.proofs.shelf.Tests.{and-parts, cond-true}
+use Rattle.refusals.specs.declared.slots.SlotId.{SlotId}
+use Rattle.refusals.specs.declared.slots.SlotId.the-variants.{Principal, Resource}
 use Rattle.names.specs.declared.entity.EntityUID.{EntityUID}
-use Rattle.policy.specs.declared.constraint.EntityReference.{EntityReference}
-use Rattle.policy.specs.declared.constraint.EntityReference.the-variants.{EUID, Slot}
-use Rattle.policy.specs.declared.constraint.PrincipalOrResourceConstraint.{PrincipalOrResourceConstraint}
-use Rattle.policy.specs.declared.constraint.PrincipalOrResourceConstraint.the-variants as scope
-use Rattle.policy.specs.Hierarchy.{Edge}
-use Rattle.policy.specs.Meaning.{Holds, Within, referred}
-use Rattle.policy.specs.Filling.{fill-reference, fill, is-slot, slotted, Iff, Fills}
+use Rattle.clauses.specs.Book.{Clause, Lawful}
+use Rattle.clauses.specs.Tree.{written}
+use Rattle.policy.specs.declared.values.SlotEnv.{SlotEnv}
+use Rattle.policy.specs.declared.template.Template.{Template}
+use Rattle.policy.specs.declared.bound.Policy.{Policy}
+use Rattle.policy.specs.Slots.{has}
+use Rattle.policy.specs.Meaning.{World, Holds, In-scope}
+use Rattle.policy.specs.Condition.{condition-tree}
+use Rattle.policy.specs.Filling.{fill, slotted, Iff}
+use Rattle.policy.specs.Mentions.{mentioned, part-has}
+use Rattle.policy.specs.Filled.{filled, scopes-within, Fills-policy}
+use Rattle.policy.proofs.Exact.{policy-exact}
+use Rattle.policy.proofs.Fillings.{fills}
+use Rattle.policy.proofs.Mentioned.{here-condition}
+use Rattle.policy.proofs.Sets.{same-where}
 
-referred-same : (value : Option EntityUID) (r : EntityReference) → referred value (fill-reference value r) ≡ referred value r
-referred-same value (EUID e) = refl
-referred-same None Slot = refl
-referred-same (Some e) Slot = refl
+-- A scope that refers to its slot has it in the slots field.
+within-field : (s : Bool) (h : Bool) → cond s h true ≡ true → s ≡ true → h ≡ true
+within-field s h c t = sym (cond-true s h true t) ∙ c
 
-referred-fixed : (value other : Option EntityUID) (r : EntityReference) → (is-slot (Some r) ≡ true → isSome value ≡ true)
-    → referred other (fill-reference value r) ≡ referred value r
-referred-fixed value other (EUID e) h = refl
-referred-fixed None other Slot h = elim (false≢true (h refl)) [ ]
-referred-fixed (Some e) other Slot h = refl
+module _ (p : Policy) (inside : scopes-within (p .template) ≡ true) where
+  parts : (cond (slotted (p .template .principal)) (has Principal (p .template .slots)) true ≡ true)
+      × (cond (slotted (p .template .resource)) (has Resource (p .template .slots)) true ≡ true)
+  parts = and-parts _ _ inside
 
-closed : (value : Option EntityUID) (r : EntityReference) → (is-slot (Some r) ≡ true → isSome value ≡ true) → is-slot (Some (fill-reference value r)) ≡ false
-closed value (EUID e) h = refl
-closed None Slot h = elim (false≢true (h refl)) [ ]
-closed (Some e) Slot h = refl
+  -- So each slot of a scope has a value.
+  pub principal-bound : slotted (p .template .principal) ≡ true → isSome (p .values .principal) ≡ true
+  principal-bound t = sym (policy-exact p Principal) ∙ within-field (slotted (p .template .principal)) (has Principal (p .template .slots)) (parts .0) t
 
--- What holds by an equation holds both ways.
-both : {X : Type 0} (P : X → Type 0) {a b : X} → a ≡ b → Iff (P a) (P b)
-both P e = (subst P e, subst P (sym e))
+  pub resource-bound : slotted (p .template .resource) ≡ true → isSome (p .values .resource) ≡ true
+  resource-bound t = sym (policy-exact p Resource) ∙ within-field (slotted (p .template .resource)) (has Resource (p .template .slots)) (parts .1) t
 
-module _ (h : List Edge) (x : EntityUID) (other value : Option EntityUID) where
-  -- A scope whose reference stands for the same entity holds alike.
-  alike : (s : PrincipalOrResourceConstraint) → ((r : EntityReference) → is-slot (Some r) ≡ slotted s → referred other (fill-reference value r) ≡ referred value r)
-      → Iff (Holds h other x (fill value s)) (Holds h value x s)
-  alike scope.Any e = ((λ p. p), λ p. p)
-  alike (scope.In r) e = both (λ (o : Option EntityUID). Within h x o) (e r refl)
-  alike (scope.Eq r) e = both (λ (o : Option EntityUID). o ≡ Some x) (e r refl)
-  alike (scope.Is t) e = ((λ p. p), λ p. p)
-  alike (scope.IsIn t r) e = both (λ (o : Option EntityUID). (x .ty ≡ t) × Within h x o) (e r refl)
-
-closes-scope : (value : Option EntityUID) (s : PrincipalOrResourceConstraint) → (slotted s ≡ true → isSome value ≡ true) → slotted (fill value s) ≡ false
-closes-scope value scope.Any c = refl
-closes-scope value (scope.In r) c = closed value r c
-closes-scope value (scope.Eq r) c = closed value r c
-closes-scope value (scope.Is t) c = refl
-closes-scope value (scope.IsIn t r) c = closed value r c
-
-pub fills : (value : Option EntityUID) (s : PrincipalOrResourceConstraint) → Fills value s
-fills value s = record {
-  keeps = λ h x. alike h x value value s (λ r _. referred-same value r);
-  closes = closes-scope value s;
-  fixes = λ c h other x. alike h x other value s (λ r e. referred-fixed value other r (λ t. c (sym e ∙ t)));
-}
+pub fills-policy : {C : Type 0} (cs : List (Clause C)) → Lawful cs → (p : Policy) → Fills-policy cs p
+fills-policy cs lawful p =
+    let f = filled cs p in
+    let a = fills (p .values .principal) (p .template .principal) in
+    let b = fills (p .values .resource) (p .template .resource) in
+    record {
+      slots =
+          same-where (part-has cs (f .principal) (f .resource) (f .clause)) (λ slot. mentioned cs slot (written (condition-tree cs f)))
+          (λ slot. sym (here-condition cs slot lawful f));
+      principal-closed = λ i. a .closes (principal-bound p i);
+      resource-closed = λ i. b .closes (resource-bound p i);
+      same-scope = λ i w env.
+          let x = a .fixes (principal-bound p i) (w .hierarchy) (env .principal) (w .principal) in
+          let y = b .fixes (resource-bound p i) (w .hierarchy) (env .resource) (w .resource) in (
+            (λ h. record { principal = x .0 (h .principal); action = h .action; resource = y .0 (h .resource) }),
+            (λ h. record { principal = x .1 (h .principal); action = h .action; resource = y .1 (h .resource) }),
+          );
+    }

@@ -5,7 +5,7 @@ pub mod Testing
 pub mod Bits
 pub mod Exact
 pub mod Reached
-pub mod Filled
+pub mod Fillings
 pub mod Ends
 pub mod Joined
 pub mod Steps
@@ -15,3 +15,4 @@ pub mod Worth
 pub mod Worded
 pub mod Sets
 pub mod Mentioned
+pub mod Filled

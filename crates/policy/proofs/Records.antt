@@ -4,7 +4,7 @@ use mathlib.Core.HLevel.{isProp→PathP}
 use mathlib.Core.List.{List, [], _∷_, _++_}
 use mathlib.Core.Logic.{_⊎_, inl, inr}
 use mathlib.Core.Bool.{Bool, true, false, cond, Bool-set}
-use Prim.Native.Nat.{ℕ, suc, _+_, _-_, _<_, _≤_}
+use Prim.Native.Nat.{ℕ, zero, suc, _+_, _-_, _<_, _≤_}
 use native.Mathlib.Nat.{ℕ-set}
 use native.Mathlib.Bridge.{le-prop}
 use native.Mathlib.Omega.{arith}
@@ -73,3 +73,9 @@ module _ (l m : ActionList) (e : listed l ≡ listed m) where
     few = isProp→PathP (λ j. counts j ≤ 8) (λ j. le-prop) (l .few) (m .few) i;
     padded = isProp→PathP (λ j. blank (drop (counts j) (items j)) ≡ true) (λ j. Bool-set _ _) (l .padded) (m .padded) i;
   }
+
+-- What is left of a blank list is blank.
+pub blank-drop : (n : ℕ) (es : List EntityUID) → blank es ≡ true → blank (drop n es) ≡ true
+blank-drop zero es h = h
+blank-drop (suc n) [] h = h
+blank-drop (suc n) (e ∷ es) h = blank-drop n es (blank-parts e es h .2)

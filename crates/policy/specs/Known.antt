@@ -49,24 +49,35 @@ template-names t =
 abbrev pub values-names : SlotEnv → List ℕ
 values-names env = optional entity-names (env .principal) ++ optional entity-names (env .resource)
 
--- The names of a policy: its template's, its link id, its values'.
+-- The names of a template, of a link id if there is one, and of values.
+abbrev pub parts-names : Template → Option ℕ → SlotEnv → List ℕ
+parts-names t link env = template-names t ++ (optional (λ n. n ∷ []) link ++ values-names env)
+
+-- The names of a policy in record order.
 abbrev pub policy-names : Policy → List ℕ
-policy-names p = template-names (p .template) ++ (optional (λ n. n ∷ []) (p .link) ++ values-names (p .values))
-
--- Refusal 1 of the first name that is not below the count.
-abbrev pub names-known : ℕ → List ℕ → Result (Unit {0}) Refusal
-names-known count [] = Ok tt
-names-known count (n ∷ ns) = cond (ltb n count) (names-known count ns) (Err (UnknownName n))
-
--- Refusal 2 of a clause that is not below the count.
-abbrev pub clause-known : {C : Type 0} → List (Clause C) → Option ℕ → Result (Unit {0}) Refusal
-clause-known cs None = Ok tt
-clause-known cs (Some n) = cond (ltb n (length cs)) (Ok tt) (Err (UnknownClause n))
+policy-names p = parts-names (p .template) (p .link) (p .values)
 
 -- Where the first test refuses, its refusal stands.
 abbrev pub and-then : {X : Type 0} → Result (Unit {0}) Refusal → Result X Refusal → Result X Refusal
 and-then (Ok u) r = r
 and-then (Err e) r = Err e
+
+-- A test of each number in turn.
+abbrev pub in-turn : (ℕ → Result (Unit {0}) Refusal) → List ℕ → Result (Unit {0}) Refusal
+in-turn test [] = Ok tt
+in-turn test (n ∷ ns) = and-then (test n) (in-turn test ns)
+
+-- Refusal 1 of a name that is not below the count.
+abbrev pub name-known : ℕ → ℕ → Result (Unit {0}) Refusal
+name-known count n = cond (ltb n count) (Ok tt) (Err (UnknownName n))
+
+abbrev pub names-known : ℕ → List ℕ → Result (Unit {0}) Refusal
+names-known count ns = in-turn (name-known count) ns
+
+-- Refusal 2 of a clause that is not below the count.
+abbrev pub clause-known : {C : Type 0} → List (Clause C) → Option ℕ → Result (Unit {0}) Refusal
+clause-known cs None = Ok tt
+clause-known cs (Some n) = cond (ltb n (length cs)) (Ok tt) (Err (UnknownClause n))
 
 -- Refusals 1 and 2 of a template.
 abbrev pub template-known : {C : Type 0} → ℕ → List (Clause C) → Template → Result (Unit {0}) Refusal

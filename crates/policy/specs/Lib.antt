@@ -13,6 +13,9 @@ pub mod Filling
 pub mod Condition
 pub mod Nodes
 pub mod Mentions
+pub mod Filled
 pub mod Answer
 pub mod Evaluation
+pub mod Listing
+pub mod Making
 pub mod Calls

@@ -1,7 +1,7 @@
 ghost use mathlib.Core.Path.{_≡_};
 ghost use mathlib.Core.List.{[], _∷_, _++_};
 ghost use Prim.Native.Nat.{ℕ};
-ghost use Rattle.policy.specs.Known.{optional, entity-names, entities-names, reference-names, scope-names, template-names, values-names, policy-names, names-known, clause-known, template-known, policy-known};
+ghost use Rattle.policy.specs.Known.{optional, entity-names, entities-names, reference-names, scope-names, template-names, values-names, parts-names, policy-names, names-known, clause-known, template-known, policy-known};
 ghost use Rattle.policy.specs.Scopes.{actions-of};
 use crate::action::ActionConstraint;
 use crate::bound::Policy;
@@ -41,7 +41,7 @@ fn known_reference(count: usize, r: EntityReference) -> Result<(), Refusal>
     }
 }
 
-fn known_scope(count: usize, s: PrincipalOrResourceConstraint) -> Result<(), Refusal>
+pub fn known_scope(count: usize, s: PrincipalOrResourceConstraint) -> Result<(), Refusal>
     ensures { λ r. ⌜ r ≡ names-known count (scope-names s) ⌝ }
 {
     match s {
@@ -85,7 +85,7 @@ pub fn known_names(count: usize, t: &Template) -> Result<(), Refusal>
     known_scope(count, t.resource)
 }
 
-fn known_value(count: usize, value: Option<EntityUID>) -> Result<(), Refusal>
+pub fn known_value(count: usize, value: Option<EntityUID>) -> Result<(), Refusal>
     ensures { λ r. ⌜ r ≡ names-known count (optional entity-names value) ⌝ }
 {
     match value {
@@ -110,13 +110,25 @@ fn known_link(count: usize, link: Option<NameNumber>) -> Result<(), Refusal>
     }
 }
 
-// The names of a policy: its template's, its link id, its values'.
+// The names of a template, of a link id if there is one, and of values.
+pub fn known_parts(
+    count: usize,
+    template: &Template,
+    link: Option<NameNumber>,
+    values: SlotEnv,
+) -> Result<(), Refusal>
+    ensures { λ r. ⌜ r ≡ names-known count (parts-names (now (template .entry)) link values) ⌝ }
+{
+    known_names(count, template)?;
+    known_link(count, link)?;
+    known_values(count, values)
+}
+
+// The names of a policy in record order.
 pub fn known_policy_names(count: usize, p: &Policy) -> Result<(), Refusal>
     ensures { λ r. ⌜ r ≡ names-known count (policy-names (now (p .entry))) ⌝ }
 {
-    known_names(count, &p.template)?;
-    known_link(count, p.link)?;
-    known_values(count, p.values)
+    known_parts(count, &p.template, p.link, p.values)
 }
 
 pub fn known_clause<B: ClauseBook>(clauses: &B, clause: Option<u16>) -> Result<(), Refusal>

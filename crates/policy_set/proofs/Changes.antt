@@ -53,7 +53,7 @@ times-kept key k p (y ∷ xs) = go (times-kept key k p xs) (p y)
     go ih true = omega arith
     go ih false = omega arith
 
-erase-absent : {X : Type 0} (key : X → ℕ) (k : ℕ) (xs : List X) → times key k xs ≡ 0 → erase key k xs ≡ xs
+pub erase-absent : {X : Type 0} (key : X → ℕ) (k : ℕ) (xs : List X) → times key k xs ≡ 0 → erase key k xs ≡ xs
 erase-absent key k [] e = refl
 erase-absent key k (y ∷ xs) e = go (erase-absent key k xs) (eqb (key y) k) e
   where

@@ -6,6 +6,7 @@ mod Shifts
 pub mod Sounds
 pub mod Updates
 pub mod Accepted
+pub mod Scopes
 pub mod Added
 pub mod Changes
 pub mod Removed

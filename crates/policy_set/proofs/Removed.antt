@@ -6,10 +6,11 @@ use Prim.Native.Nat.{ℕ}
 use lib.Dec.{eqb}
 use Rattle.std.specs.declared.option.Option.{Option}
 use Rattle.std.specs.declared.option.Option.the-variants.{Some, None}
-use Rattle.std.specs.declared.result.Result.the-variants.{Ok}
+use Rattle.std.specs.declared.result.Result.the-variants.{Ok, Err}
 use Rattle.std.specs.Options.{isSome}
 use Rattle.std.specs.shelf.Lists.{kept-by}
 use Rattle.std.proofs.shelf.Tests.{eqb-false, eq-eqb}
+use Rattle.refusals.specs.declared.refusal.Refusal.the-variants.{RemovePolicyNoTemplateError}
 use Rattle.policy.specs.Arity.{Parts}
 use Rattle.policy.specs.Known.{names-known}
 use Rattle.policy.specs.declared.template.Template.{Template}
@@ -17,13 +18,13 @@ use Rattle.policy_set.specs.declared.rows.PolicyRow.{PolicyRow}
 use Rattle.policy_set.specs.declared.rows.Member.{Member}
 use Rattle.policy_set.specs.Tables.{Once, lookup, erase}
 use Rattle.policy_set.specs.Rows.{template-id, policy-id, member-id}
-use Rattle.policy_set.specs.Maps.{Maps, template-at, row-at, member-at, in-force, changed, thing}
+use Rattle.policy_set.specs.Maps.{Maps, template-at, row-at, member-at, in-force, changed, whole, thing}
 use Rattle.policy_set.specs.Maps.Thing.{policy, template}
 use Rattle.policy_set.specs.Sound.{member, Sound}
 use Rattle.policy_set.specs.Answers.{remove-static-answer, remove-static-after, no-rows, is-under, reverse-set, without-policy, without-template, policy-last}
-use Rattle.policy_set.specs.Laws.{Removes}
-use Rattle.policy_set.proofs.Changes.{removes}
-use Rattle.policy_set.proofs.Lookups.{some-same, no-some, lookup-erased, lookup-kept, lookup-moved}
+use Rattle.policy_set.specs.Laws.{Removes, Refused}
+use Rattle.policy_set.proofs.Changes.{removes, erase-absent}
+use Rattle.policy_set.proofs.Lookups.{times-none, some-same, no-some, lookup-erased, lookup-kept, lookup-moved}
 use Rattle.policy_set.proofs.Sounds.{no-true}
 use Rattle.policy_set.proofs.Updates.{Update, Fits, Kept, kept, kept-same}
 
@@ -68,6 +69,12 @@ pub static-removed-kept : (m : Maps) (id : ℕ) (t : Template) (r : PolicyRow) �
 static-removed-kept m id t r s old a b =
     kept m (without-template id (without-policy id m)) id None None None (static-removed-all m id t r s a b) old (nothing-fits (without-template id (without-policy id m)))
 
+pub static-removes : (m : Maps) (id : ℕ) (t : Template) (r : PolicyRow) (p : Parts) → Sound m → template-at m id ≡ Some t → row-at m id ≡ Some r
+  → in-force m id ≡ Some p → Removes m (without-template id (without-policy id m)) id (policy p)
+static-removes m id t r p s a b c =
+    removes m (without-template id (without-policy id m)) id (policy p) (s .members-once) (static-removed-all m id t r s a b) refl
+      (ap (λ (o : Option Template). thing o (in-force m id)) a ∙ ap (thing (Some t)) c)
+
 -- a member under a template stands in its reverse set
 pub some-kept : {X : Type 0} (key : X → ℕ) (k : ℕ) (p : X → Bool) (xs : List X) (x : X) → lookup key k xs ≡ Some x → p x ≡ true → no-rows (kept-by p xs) ≡ false
 some-kept key k p [] x e h = no-some x e
@@ -91,6 +98,13 @@ template-removed m id s a b = record {
 pub template-removed-kept : (m : Maps) (id : ℕ) → Sound m → Kept m → row-at m id ≡ None → no-rows (reverse-set id m) ≡ true → Kept (without-template id m)
 template-removed-kept m id s old a b = kept m (without-template id m) id None None None (template-removed m id s a b) old (nothing-fits (without-template id m))
 
+pub template-removes : (m : Maps) (id : ℕ) (t : Template) → Sound m → template-at m id ≡ Some t → row-at m id ≡ None → no-rows (reverse-set id m) ≡ true
+  → Removes m (without-template id m) id (template t)
+template-removes m id t s a b c =
+    removes m (without-template id m) id (template t) (s .members-once) (template-removed m id s b c)
+      (sym (erase-absent member-id id (m .members) (times-none member-id id (m .members) (s .members id ∙ ap (changed member) b))))
+      (ap (λ (o : Option Template). thing o (in-force m id)) a ∙ ap (λ (o : Option PolicyRow). thing (Some t) (changed (whole m) o)) b)
+
 -- a policy is moved last
 pub policy-last-kept : (m : Maps) (id : ℕ) → Sound m → Kept m → Kept (policy-last id m)
 policy-last-kept m id s old = kept-same m (policy-last id m) (λ k. refl) (λ k. lookup-moved policy-id id (m .policies) k (s .policies-once)) (λ k. refl) old
@@ -99,3 +113,13 @@ policy-last-kept m id s old = kept-same m (policy-last id m) (λ k. refl) (λ k.
 pub remove-static-accepts : (names : ℕ) (m : Maps) (id : ℕ) (p : Parts) → Ok tt ≡ names-known names (id ∷ []) → Some p ≡ in-force m id → isSome (template-at m id) ≡ true
   → (Ok p ≡ remove-static-answer names m id) × (remove-static-after names m id ≡ without-template id (without-policy id m))
 remove-static-accepts names m id p a b c = (rw (← a, ← b, c) refl, rw (← a, ← b, c) refl)
+
+-- and where it puts a link back
+pub remove-static-puts-back : (names : ℕ) (m : Maps) (id : ℕ) (p : Parts) → Ok tt ≡ names-known names (id ∷ []) → Some p ≡ in-force m id → isSome (template-at m id) ≡ false
+  → (Err (RemovePolicyNoTemplateError id) ≡ remove-static-answer names m id) × (remove-static-after names m id ≡ policy-last id m)
+remove-static-puts-back names m id p a b c = (rw (← a, ← b, c) refl, rw (← a, ← b, c) refl)
+
+pub policy-last-refused : (m : Maps) (id : ℕ) → Sound m → Refused m (policy-last id m) (RemovePolicyNoTemplateError id)
+policy-last-refused m id s = record {
+    same = λ n. absurd (n refl);
+    names = λ k. ap (λ (o : Option PolicyRow). thing (template-at m k) (changed (whole m) o)) (lookup-moved policy-id id (m .policies) k (s .policies-once)) }

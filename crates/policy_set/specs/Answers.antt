@@ -10,9 +10,11 @@ use Rattle.std.specs.declared.result.Result.the-variants.{Ok, Err}
 use Rattle.std.specs.Options.{isSome}
 use Rattle.std.specs.shelf.Lists.{kept-by}
 use Rattle.refusals.specs.declared.refusal.Refusal.{Refusal}
-use Rattle.refusals.specs.declared.refusal.Refusal.the-variants.{NoSuchTemplate, PolicyIdConflict, NotLinkError, UnlinkingError, RemovePolicyNoLinkError, RemovePolicyNoTemplateError, NotTemplateError, RemoveTemplateNoTemplateError, RemoveTemplateWithLinksError, Slotless, Full}
-use Rattle.refusals.specs.declared.refusal.Table.the-variants.{Policies}
-use Rattle.policy.specs.Known.{and-then, names-known, values-names}
+use Rattle.refusals.specs.declared.refusal.Refusal.the-variants.{SlotCacheMismatch, Occupied, NoSuchTemplate, PolicyIdConflict, NotLinkError, UnlinkingError, RemovePolicyNoLinkError, RemovePolicyNoTemplateError, NotTemplateError, RemoveTemplateNoTemplateError, RemoveTemplateWithLinksError, Slotless, Full}
+use Rattle.refusals.specs.declared.refusal.Table.the-variants.{Templates, Policies}
+use Rattle.policy.specs.Known.{and-then, names-known, values-names, template-known}
+use Rattle.policy.specs.Mentions.{condition-slots}
+use Rattle.clauses.specs.Book.{Clause}
 use Rattle.policy.specs.Arity.{Parts, bindable}
 use Rattle.policy.specs.declared.values.SlotEnv.{SlotEnv}
 use Rattle.policy.specs.declared.template.Template.{Template}
@@ -65,6 +67,57 @@ get-answer names m id = and-then (names-known names (id ∷ [])) (Ok (in-force m
 abbrev pub get-template-answer : ℕ → Maps → ℕ → Result (Option Template) Refusal
 get-template-answer names m id = and-then (names-known names (id ∷ [])) (Ok (template-at m id))
 
+-- Refusal 9 of a template whose slots are not its condition's.
+abbrev pub slots-cached : {C : Type 0} → List (Clause C) → Template → Result (Unit {0}) Refusal
+slots-cached cs t = refuse-if (not (eqb (t .slots .bits) (condition-slots cs t .bits))) (SlotCacheMismatch (t .id))
+
+-- `add_template`: 1 and 2, 9, 10, 25 and 27.
+abbrev pub add-template-answer : {C : Type 0} → ℕ → List (Clause C) → Maps → Template → Result (Unit {0}) Refusal
+add-template-answer names cs m t =
+    and-then (template-known names cs t)
+    (and-then (slots-cached cs t)
+    (and-then (refuse-if (bound m (t .id)) (Occupied (t .id)))
+    (and-then (refuse-if (not (has-slots t)) (Slotless (t .id)))
+    (refuse-if (not (has-room 64 (m .templates))) (Full Templates)))))
+
+-- The maps with one template more, last among the templates.
+abbrev pub with-template : Template → Maps → Maps
+with-template t m = record { templates = m .templates ++ t ∷ []; policies = m .policies; members = m .members }
+
+abbrev pub add-template-after : {C : Type 0} → ℕ → List (Clause C) → Maps → Template → Maps
+add-template-after names cs m t = if-accepted (add-template-answer names cs m t) (with-template t m) m
+
+-- The maps with one policy more, last among the policies and among the members.
+abbrev pub with-policy : PolicyRow → Maps → Maps
+with-policy r m = record {
+  templates = m .templates;
+  policies = m .policies ++ r ∷ [];
+  members = m .members ++ member r ∷ [] }
+
+-- `add_static`: 1 and 2, 9, 10 and 27.
+abbrev pub add-static-answer : {C : Type 0} → ℕ → List (Clause C) → Maps → Template → Result (Unit {0}) Refusal
+add-static-answer names cs m t =
+    and-then (template-known names cs t)
+    (and-then (slots-cached cs t)
+    (and-then (refuse-if (bound m (t .id)) (Occupied (t .id)))
+    (and-then (refuse-if (not (has-room 64 (m .templates))) (Full Templates))
+    (refuse-if (not (has-room 256 (m .policies))) (Full Policies)))))
+
+-- The policy that a static policy is.
+abbrev pub static-parts : Template → Parts
+static-parts t = record { template = t; link = None; values = record { principal = None; resource = None } }
+
+-- The id of a policy: its link id, or its template's.
+abbrev pub id-of : Parts → ℕ
+id-of p = elim (p .link) [ None ↦ p .template .id | Some id ↦ id ]
+
+-- The row of a policy.
+abbrev pub row-for : Parts → PolicyRow
+row-for p = record { id = id-of p; template = p .template .id; link = isSome (p .link); values = p .values }
+
+abbrev pub add-static-after : {C : Type 0} → ℕ → List (Clause C) → Maps → Template → Maps
+add-static-after names cs m t = if-accepted (add-static-answer names cs m t) (with-policy (row-for (static-parts t)) (with-template t m)) m
+
 -- The link of a template: 12, 13, 25 and 27; else the new policy.
 abbrev pub linked-answer : Maps → ℕ → SlotEnv → Template → Result Parts Refusal
 linked-answer m new values t =
@@ -79,13 +132,6 @@ abbrev pub link-answer : ℕ → Maps → ℕ → ℕ → SlotEnv → Result Par
 link-answer names m template new values =
     and-then (names-known names (template ∷ new ∷ values-names values))
     (found-then (NoSuchTemplate template) (template-at m template) (linked-answer m new values))
-
--- The maps with one policy more, last among the policies and among the members.
-abbrev pub with-policy : PolicyRow → Maps → Maps
-with-policy r m = record {
-  templates = m .templates;
-  policies = m .policies ++ r ∷ [];
-  members = m .members ++ member r ∷ [] }
 
 -- The row of a link.
 abbrev pub link-row : ℕ → ℕ → SlotEnv → PolicyRow
@@ -136,17 +182,13 @@ static-removed id (Some p) in-templates m = cond in-templates (without-template 
 abbrev pub remove-static-after : ℕ → Maps → ℕ → Maps
 remove-static-after names m id = if-accepted (names-known names (id ∷ [])) (static-removed id (in-force m id) (isSome (template-at m id)) m) m
 
--- A template without policies: 19 and 20 where it is not one.
-abbrev pub unlinked-template : ℕ → Option Template → List Member → Result Template Refusal
-unlinked-template id None members = Err (RemoveTemplateNoTemplateError id)
-unlinked-template id (Some t) members = cond (no-rows members) (Ok t) (Err (RemoveTemplateWithLinksError id))
-
 -- `remove_template`: 1, 18, 19 and 20; else the template.
 abbrev pub remove-template-answer : ℕ → Maps → ℕ → Result Template Refusal
 remove-template-answer names m id =
     and-then (names-known names (id ∷ []))
     (and-then (refuse-if (isSome (row-at m id)) (NotTemplateError id))
-    (unlinked-template id (template-at m id) (reverse-set id m)))
+    (found-then (RemoveTemplateNoTemplateError id) (template-at m id)
+    (λ t. cond (no-rows (reverse-set id m)) (Ok t) (Err (RemoveTemplateWithLinksError id)))))
 
 abbrev pub remove-template-after : ℕ → Maps → ℕ → Maps
 remove-template-after names m id = if-accepted (remove-template-answer names m id) (without-template id m) m

@@ -1,7 +1,7 @@
 -- What the calls do to a set, in the subject's words.
 use mathlib.Core.Path.{_≡_}
 use mathlib.Core.Bool.{false}
-use mathlib.Core.List.{List, _++_}
+use mathlib.Core.List.{List, [], _∷_, _++_}
 use Prim.Native.Nat.{ℕ}
 use Rattle.std.specs.Results.{Cases}
 use Rattle.std.specs.shelf.Lists.{kept-by}
@@ -9,12 +9,14 @@ use Rattle.std.specs.declared.result.Result.{Result}
 use Rattle.refusals.specs.Refusals.{number}
 use Rattle.refusals.specs.declared.refusal.Refusal.{Refusal}
 use Rattle.policy.specs.Arity.{Parts}
+use Rattle.policy.specs.declared.template.Template.{Template}
 use Rattle.policy_set.specs.declared.rows.Member.{Member}
 use Rattle.policy_set.specs.Tables.{erase, times}
 use Rattle.policy_set.specs.Rows.{member-id}
 use Rattle.policy_set.specs.Maps.{Maps, Thing, bound, named}
-use Rattle.policy_set.specs.Maps.Thing.{policy}
-use Rattle.policy_set.specs.Answers.{is-under, reverse-set}
+use Rattle.policy_set.specs.Maps.Thing.{template, policy}
+use Rattle.policy_set.specs.Sound.{member}
+use Rattle.policy_set.specs.Answers.{is-under, reverse-set, static-parts, row-for}
 
 -- One thing fewer: the id named it, and is bound nowhere now; every other id names what it named.
 pub record Removes (before after : Maps) (id : ℕ) (it : Thing) : Type 0 where
@@ -41,3 +43,21 @@ pub record Refused (before after : Maps) (e : Refusal) : Type 0 where
 -- The removal of a policy: what is handed back is gone, or nothing has changed.
 abbrev pub Removal : Maps → Maps → ℕ → Result Parts Refusal → Type 0
 Removal before after id answer = Cases answer (λ p. Removes before after id (policy p)) (Refused before after)
+
+-- The removal of a template: likewise.
+abbrev pub TemplateRemoval : Maps → Maps → ℕ → Result Template Refusal → Type 0
+TemplateRemoval before after id answer = Cases answer (λ t. Removes before after id (template t)) (Refused before after)
+
+-- A link: the policy that is handed back is in force under the new id, last in its template's reverse set.
+abbrev pub Linking : Maps → Maps → ℕ → ℕ → Result Parts Refusal → Type 0
+Linking before after t new answer =
+    Cases answer (λ p. Adds before after new (policy p) (record { policy = new; template = t } ∷ [])) (Refused before after)
+
+-- A new template: its id names it.
+abbrev pub TemplateAddition : Maps → Maps → Template → Result (Unit {0}) Refusal → Type 0
+TemplateAddition before after t answer = Cases answer (λ _. Adds before after (t .id) (template t) []) (Refused before after)
+
+-- A new static policy: its id names it, and it is its template's only member.
+abbrev pub StaticAddition : Maps → Maps → Template → Result (Unit {0}) Refusal → Type 0
+StaticAddition before after t answer =
+    Cases answer (λ _. Adds before after (t .id) (policy (static-parts t)) (member (row-for (static-parts t)) ∷ [])) (Refused before after)

@@ -6,6 +6,7 @@ use crate::tables::Members;
 use crate::tables::Policies;
 use crate::tables::Templates;
 
+pub mod additions;
 pub mod links;
 pub mod listing;
 pub(crate) mod reads;

@@ -23,16 +23,22 @@ fn slot_at_start(text: &[u8]) -> Option<SlotId>
             b'p',
             b'a',
             b'l',
-            next,
+            after_principal,
             ..
-        ] => {
-            if is_word(*next) {
-                None
-            } else {
-                Some(SlotId::Principal)
-            }
-        }
-        [b'?', b'p', b'r', b'i', b'n', b'c', b'i', b'p', b'a', b'l'] => Some(SlotId::Principal),
+        ] if is_word(*after_principal) => None,
+        [
+            b'?',
+            b'p',
+            b'r',
+            b'i',
+            b'n',
+            b'c',
+            b'i',
+            b'p',
+            b'a',
+            b'l',
+            ..
+        ] => Some(SlotId::Principal),
         [
             b'?',
             b'r',
@@ -43,16 +49,10 @@ fn slot_at_start(text: &[u8]) -> Option<SlotId>
             b'r',
             b'c',
             b'e',
-            next,
+            after_resource,
             ..
-        ] => {
-            if is_word(*next) {
-                None
-            } else {
-                Some(SlotId::Resource)
-            }
-        }
-        [b'?', b'r', b'e', b's', b'o', b'u', b'r', b'c', b'e'] => Some(SlotId::Resource),
+        ] if is_word(*after_resource) => None,
+        [b'?', b'r', b'e', b's', b'o', b'u', b'r', b'c', b'e', ..] => Some(SlotId::Resource),
         _ => None,
     }
 }

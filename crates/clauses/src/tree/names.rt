@@ -1,7 +1,8 @@
 ghost use mathlib.Core.Path.{_≡_};
 ghost use lib.ListN.{length};
 ghost use Rattle.names.specs.Book.{texts};
-ghost use Rattle.clauses.specs.NameChecks.{in-turn, name-check, type-check};
+ghost use Rattle.clauses.specs.Checks.{in-turn};
+ghost use Rattle.clauses.specs.NameChecks.{name-check, type-check};
 ghost use Rattle.clauses.specs.Nodes.{node-names, node-types};
 ghost use Rattle.clauses.specs.TreeEntering.{names-in, types-in};
 use crate::naming::check_name;

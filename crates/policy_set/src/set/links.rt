@@ -6,6 +6,7 @@ ghost use Rattle.names.specs.Book.{texts};
 ghost use Rattle.policy.specs.Arity.{parts-of};
 ghost use Rattle.policy.specs.Known.{names-known, values-names};
 ghost use Rattle.policy_set.specs.Answers.{link-answer, link-after, linked-answer};
+ghost use Rattle.policy_set.specs.Laws.{Linking};
 ghost use Rattle.policy_set.specs.Meaning.{maps-of};
 
 use names::kept::NameBook;
@@ -49,16 +50,24 @@ impl PolicySet {
         Ok(policy)
     }
 
+    // The policy that `link` makes, or why it makes none.
+    fn new_link(&self, template_id: NameNumber, new_id: NameNumber, values: SlotEnv, names: &NameBook) -> Result<Policy, Refusal>
+        ensures { λ r. ⌜ parts-of r ≡ link-answer (length (texts (now (names .entry)))) (maps-of (now (self .entry))) «template_id» «new_id» values ⌝ }
+    {
+        known_link(names, template_id, new_id, values)?;
+        match self.template(template_id) {
+            Some(template) => self.linked(&template, new_id, values),
+            None => Err(Refusal::NoSuchTemplate(template_id)),
+        }
+    }
+
     // Links a template under a new id; the new policy.
     pub fn link(&mut self, template_id: NameNumber, new_id: NameNumber, values: SlotEnv, names: &NameBook) -> Result<Policy, Refusal>
         ensures answer { λ r. ⌜ parts-of r ≡ link-answer (length (texts (now (names .entry)))) (maps-of (now (self .entry))) «template_id» «new_id» values ⌝ }
         ensures after { λ _. ⌜ maps-of (now (self .exit)) ≡ link-after (length (texts (now (names .entry)))) (maps-of (now (self .entry))) «template_id» «new_id» values ⌝ }
+        ensures law { λ r. ⌜ Linking (maps-of (now (self .entry))) (maps-of (now (self .exit))) «template_id» «new_id» (parts-of r) ⌝ }
     {
-        known_link(names, template_id, new_id, values)?;
-        let Some(template) = self.template(template_id) else {
-            return Err(Refusal::NoSuchTemplate(template_id));
-        };
-        let policy = self.linked(&template, new_id, values)?;
+        let policy = self.new_link(template_id, new_id, values, names)?;
         self.policies.push(PolicyRow { id: new_id, template: template_id, link: true, values });
         self.members.push(Member { policy: new_id, template: template_id });
         Ok(policy)

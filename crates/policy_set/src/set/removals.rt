@@ -4,7 +4,7 @@ ghost use lib.ListN.{length};
 ghost use Rattle.names.specs.Book.{texts};
 ghost use Rattle.policy_set.specs.Answers.{unlink-answer, unlink-after, remove-static-answer, remove-static-after, remove-template-answer, remove-template-after};
 ghost use Rattle.policy.specs.Arity.{parts-of};
-ghost use Rattle.policy_set.specs.Laws.{Removal};
+ghost use Rattle.policy_set.specs.Laws.{Removal, TemplateRemoval};
 ghost use Rattle.policy_set.specs.Meaning.{maps-of};
 
 use names::kept::NameBook;
@@ -46,6 +46,7 @@ impl PolicySet {
     pub fn remove_static(&mut self, id: NameNumber, names: &NameBook) -> Result<Policy, Refusal>
         ensures answer { λ r. ⌜ parts-of r ≡ remove-static-answer (length (texts (now (names .entry)))) (maps-of (now (self .entry))) id ⌝ }
         ensures after { λ _. ⌜ maps-of (now (self .exit)) ≡ remove-static-after (length (texts (now (names .entry)))) (maps-of (now (self .entry))) id ⌝ }
+        ensures law { λ r. ⌜ Removal (maps-of (now (self .entry))) (maps-of (now (self .exit))) id (parts-of r) ⌝ }
     {
         known(names, id)?;
         let Some(policy) = self.in_force(id) else {
@@ -61,10 +62,9 @@ impl PolicySet {
         Ok(policy)
     }
 
-    // Removes a template that has no policies; the template that it was.
-    pub fn remove_template(&mut self, id: NameNumber, names: &NameBook) -> Result<Template, Refusal>
-        ensures answer { λ r. ⌜ r ≡ remove-template-answer (length (texts (now (names .entry)))) (maps-of (now (self .entry))) id ⌝ }
-        ensures after { λ _. ⌜ maps-of (now (self .exit)) ≡ remove-template-after (length (texts (now (names .entry)))) (maps-of (now (self .entry))) id ⌝ }
+    // The template that `remove_template` removes, or why there is none.
+    fn removable_template(&self, id: NameNumber, names: &NameBook) -> Result<Template, Refusal>
+        ensures { λ r. ⌜ r ≡ remove-template-answer (length (texts (now (names .entry)))) (maps-of (now (self .entry))) id ⌝ }
     {
         known(names, id)?;
         if self.has_policy(id) {
@@ -76,6 +76,16 @@ impl PolicySet {
         if self.has_members(id) {
             return Err(Refusal::RemoveTemplateWithLinksError(id));
         }
+        Ok(template)
+    }
+
+    // Removes a template that has no policies; the template that it was.
+    pub fn remove_template(&mut self, id: NameNumber, names: &NameBook) -> Result<Template, Refusal>
+        ensures answer { λ r. ⌜ r ≡ remove-template-answer (length (texts (now (names .entry)))) (maps-of (now (self .entry))) id ⌝ }
+        ensures after { λ _. ⌜ maps-of (now (self .exit)) ≡ remove-template-after (length (texts (now (names .entry)))) (maps-of (now (self .entry))) id ⌝ }
+        ensures law { λ r. ⌜ TemplateRemoval (maps-of (now (self .entry))) (maps-of (now (self .exit))) id r ⌝ }
+    {
+        let template = self.removable_template(id, names)?;
         self.templates.remove(id);
         Ok(template)
     }

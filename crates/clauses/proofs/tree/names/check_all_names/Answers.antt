@@ -8,7 +8,8 @@ use Rattle.std.proofs.shelf.Lists.{at-drop-all}
 use Rattle.names.specs.Book.{texts}
 use Rattle.clauses.specs.declared.tree.node.Node.{Node}
 use Rattle.clauses.specs.declared.tree.node.Node.the-variants.{Lit}
-use Rattle.clauses.specs.NameChecks.{in-turn, name-check}
+use Rattle.clauses.specs.Checks.{in-turn}
+use Rattle.clauses.specs.NameChecks.{name-check}
 use Rattle.clauses.specs.Nodes.{node-names}
 use Rattle.clauses.specs.TreeEntering.{names-in}
 use Rattle.clauses.proofs.Checks.{stops, goes-on}

@@ -1,7 +1,8 @@
 use mathlib.Core.Path.{_≡_}
 use lib.ListN.{length, drop}
 use Rattle.names.specs.Book.{texts}
-use Rattle.clauses.specs.NameChecks.{in-turn, name-check}
+use Rattle.clauses.specs.Checks.{in-turn}
+use Rattle.clauses.specs.NameChecks.{name-check}
 use Rattle.clauses.specs.TreeEntering.{names-in}
 use Rattle.clauses.proofs.tree.names.check_all_names.Given as given
 

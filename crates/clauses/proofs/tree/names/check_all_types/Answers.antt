@@ -7,7 +7,8 @@ use Rattle.std.proofs.shelf.Lists.{at-drop-all}
 use Rattle.names.specs.Book.{texts}
 use Rattle.clauses.specs.declared.tree.node.Node.{Node}
 use Rattle.clauses.specs.declared.tree.node.Node.the-variants.{Lit}
-use Rattle.clauses.specs.NameChecks.{in-turn, type-check}
+use Rattle.clauses.specs.Checks.{in-turn}
+use Rattle.clauses.specs.NameChecks.{type-check}
 use Rattle.clauses.specs.Nodes.{node-types}
 use Rattle.clauses.specs.TreeEntering.{types-in}
 use Rattle.clauses.proofs.Checks.{stops, goes-on}

@@ -1,7 +1,8 @@
 use mathlib.Core.Path.{_≡_}
 use lib.ListN.{drop}
 use Rattle.names.specs.Book.{texts}
-use Rattle.clauses.specs.NameChecks.{in-turn, type-check}
+use Rattle.clauses.specs.Checks.{in-turn}
+use Rattle.clauses.specs.NameChecks.{type-check}
 use Rattle.clauses.specs.TreeEntering.{types-in}
 use Rattle.clauses.proofs.tree.names.check_all_types.Given as given
 
