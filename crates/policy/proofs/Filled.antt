@@ -9,20 +9,16 @@ use Rattle.refusals.specs.declared.slots.SlotId.{SlotId}
 use Rattle.refusals.specs.declared.slots.SlotId.the-variants.{Principal, Resource}
 use Rattle.names.specs.declared.entity.EntityUID.{EntityUID}
 use Rattle.clauses.specs.Book.{Clause, Lawful}
-use Rattle.clauses.specs.Tree.{written}
 use Rattle.policy.specs.declared.values.SlotEnv.{SlotEnv}
 use Rattle.policy.specs.declared.template.Template.{Template}
 use Rattle.policy.specs.declared.bound.Policy.{Policy}
 use Rattle.policy.specs.Slots.{has}
 use Rattle.policy.specs.Meaning.{World, Holds, In-scope}
-use Rattle.policy.specs.Condition.{condition-tree}
 use Rattle.policy.specs.Filling.{fill, slotted, Iff}
-use Rattle.policy.specs.Mentions.{mentioned, part-has}
 use Rattle.policy.specs.Filled.{filled, scopes-within, Fills-policy}
 use Rattle.policy.proofs.Exact.{policy-exact}
 use Rattle.policy.proofs.Fillings.{fills}
-use Rattle.policy.proofs.Mentioned.{here-condition}
-use Rattle.policy.proofs.Sets.{same-where}
+use Rattle.policy.proofs.Within.{parts-slots}
 
 -- A scope that refers to its slot has it in the slots field.
 within-field : (s : Bool) (h : Bool) → cond s h true ≡ true → s ≡ true → h ≡ true
@@ -46,9 +42,7 @@ fills-policy cs lawful p =
     let a = fills (p .values .principal) (p .template .principal) in
     let b = fills (p .values .resource) (p .template .resource) in
     record {
-      slots =
-          same-where (part-has cs (f .principal) (f .resource) (f .clause)) (λ slot. mentioned cs slot (written (condition-tree cs f)))
-          (λ slot. sym (here-condition cs slot lawful f));
+      slots = parts-slots cs lawful f;
       principal-closed = λ i. a .closes (principal-bound p i);
       resource-closed = λ i. b .closes (resource-bound p i);
       same-scope = λ i w env.

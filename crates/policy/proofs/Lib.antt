@@ -15,4 +15,6 @@ pub mod Worth
 pub mod Worded
 pub mod Sets
 pub mod Mentioned
+pub mod Within
+pub mod Makings
 pub mod Filled

@@ -18,4 +18,6 @@ pub mod Answer
 pub mod Evaluation
 pub mod Listing
 pub mod Making
+pub mod Static
 pub mod Calls
+pub mod Edges

@@ -1,13 +1,20 @@
 ghost use mathlib.Core.Path.{_≡_};
+ghost use mathlib.Core.Bool.{true};
 ghost use mathlib.Core.List.{List, [], _∷_};
 ghost use lib.ListN.{length, getD};
+ghost use Rattle.std.specs.Vec.{made};
 ghost use Rattle.names.specs.Book.{texts};
+ghost use Rattle.policy.specs.Scopes.{actions-of};
+ghost use Rattle.policy.specs.Filled.{scopes-within};
 ghost use Rattle.policy.specs.Making.{Makes-action, type-name, types-kept, reference-types, scope-types, entities-types, template-types, template-kept, Makes, Type-names-decided};
 ghost use Rattle.policy.specs.Listing.{listed-of, list-answer};
 use crate::action::ActionConstraint;
 use crate::action::ActionList;
+use crate::condition_slots::slots_of;
+use crate::constraint::Effect;
 use crate::constraint::EntityReference;
 use crate::constraint::PrincipalOrResourceConstraint;
+use crate::known::known_template;
 use crate::scope::ActionScope;
 use crate::template::Template;
 use clauses::book::ClauseBook;
@@ -87,5 +94,73 @@ fn kept_scope(names: &NameBook, s: PrincipalOrResourceConstraint) -> Result<(), 
             kept_type(names, t)?;
             kept_reference(names, r)
         }
+    }
+}
+
+fn kept_entities(names: &NameBook, list: &[EntityUID]) -> Result<(), Refusal>
+    ensures { λ r. ⌜ r ≡ types-kept (texts (now (names .entry))) (entities-types (now (list .entry))) ⌝ }
+{
+    for e in list {
+        kept_type(names, e.ty)?;
+    }
+    Ok(())
+}
+
+fn kept_action(names: &NameBook, action: &ActionConstraint) -> Result<(), Refusal>
+    ensures { λ r. ⌜ r ≡ types-kept (texts (now (names .entry))) (entities-types (actions-of (now (action .entry)))) ⌝ }
+{
+    match action {
+        ActionConstraint::Any => Ok(()),
+        ActionConstraint::In(list) => kept_entities(names, list.as_slice()),
+        ActionConstraint::Eq(e) => kept_type(names, e.ty),
+    }
+}
+
+// The type names of a template in record order.
+fn kept_types(names: &NameBook, t: &Template) -> Result<(), Refusal>
+    ensures { λ r. ⌜ r ≡ types-kept (texts (now (names .entry))) (template-types (now (t .entry))) ⌝ }
+{
+    kept_scope(names, t.principal)?;
+    kept_action(names, &t.action)?;
+    kept_scope(names, t.resource)
+}
+
+// Refusals 1, 2 and 5 of a template; else the template.
+fn kept<B: ClauseBook>(t: Template, names: &NameBook, clauses: &B) -> Result<Template, Refusal>
+    ensures { λ r. ⌜ r ≡ template-kept (texts (now (names .entry))) (B·ClauseBook .listed (now (clauses .entry))) t ⌝ }
+{
+    known_template(&t, names.count(), clauses)?;
+    kept_types(names, &t)?;
+    Ok(t)
+}
+
+impl Template {
+    // The template of these parts, with the slots of its condition.
+    pub fn new<B: ClauseBook>(
+        id: NameNumber,
+        effect: Effect,
+        principal: PrincipalOrResourceConstraint,
+        action: ActionScope<'_>,
+        resource: PrincipalOrResourceConstraint,
+        clause: Option<u16>,
+        names: &NameBook,
+        clauses: &B,
+    ) -> Result<Template, Refusal>
+        ensures answer { λ r. ⌜ Makes (texts (now (names .entry))) (B·ClauseBook .listed (now (clauses .entry))) id effect principal (action .entry) resource clause r ⌝ }
+        ensures within { λ r. ⌜ made r (λ t. scopes-within t ≡ true) ⌝ }
+        ensures types { λ _. ⌜ Type-names-decided ⌝ }
+    {
+        let action = action_of(action)?;
+        let slots = slots_of(principal, resource, clause, clauses);
+        let template = Template {
+            id,
+            effect,
+            principal,
+            action,
+            resource,
+            clause,
+            slots,
+        };
+        kept(template, names, clauses)
     }
 }
