@@ -75,7 +75,11 @@ impl Clauses {
     pub fn new(heap: Global) -> Result<Clauses, AllocError> {
         let sealed = SealedBook::new(heap)?;
         let trees = TreeBook::new(heap)?;
-        Ok(Clauses { sealed, trees, kind: Kind::Open })
+        Ok(Clauses {
+            sealed,
+            trees,
+            kind: Kind::Open,
+        })
     }
 
     // The first clause says which book the script stands on.
@@ -83,7 +87,11 @@ impl Clauses {
         if self.kind == Kind::Open {
             self.kind = kind;
         }
-        if self.kind == kind { Ok(()) } else { Err(Wrong::OtherBook) }
+        if self.kind == kind {
+            Ok(())
+        } else {
+            Err(Wrong::OtherBook)
+        }
     }
 
     // `clause TEXT`
@@ -96,7 +104,12 @@ impl Clauses {
     }
 
     // `tree NODE ...`
-    pub fn tree(&mut self, heap: Global, args: &mut Args, book: &mut NameBook) -> Result<String, Stop> {
+    pub fn tree(
+        &mut self,
+        heap: Global,
+        args: &mut Args,
+        book: &mut NameBook,
+    ) -> Result<String, Stop> {
         self.settle(Kind::Tree)?;
         let nodes = nodes(heap, args, book)?;
         let number = self.trees.enter(nodes.as_slice(), book)?;

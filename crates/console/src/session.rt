@@ -32,7 +32,11 @@ impl Session {
         let Ok(clauses) = Clauses::new(heap) else {
             return None;
         };
-        Some(Session { heap, book, clauses })
+        Some(Session {
+            heap,
+            book,
+            clauses,
+        })
     }
 
     // Makes the call of a line; no answer to a blank line or a comment.

@@ -64,26 +64,33 @@ impl Body {
         })
     }
 
-    fn with_action<B: ClauseBook>(
-        &self,
-        id: NameNumber,
-        action: ActionScope<'_>,
-        book: &NameBook,
-        clauses: &B,
-    ) -> Result<Template, Stop> {
-        Ok(Template::new(id, self.effect, self.principal, action, self.resource, self.clause, book, clauses)?)
-    }
-
     // The template of the line, under an id that the book has.
     fn template<B: ClauseBook>(&self, book: &mut NameBook, clauses: &B) -> Result<Template, Stop> {
         if book.count() == 0 {
             let _ = book.name(b"")?;
         }
-        match &self.action {
-            ActionWord::Any => self.with_action(0, ActionScope::Any, book, clauses),
-            ActionWord::Eq(e) => self.with_action(0, ActionScope::Eq(*e), book, clauses),
-            ActionWord::In(list) => self.with_action(0, ActionScope::In(list.as_slice()), book, clauses),
-        }
+        let action = scope_of(&self.action);
+        Ok(
+            Template::new(
+                0,
+                self.effect,
+                self.principal,
+                action,
+                self.resource,
+                self.clause,
+                book,
+                clauses,
+            )?,
+        )
+    }
+}
+
+// The action's scope, its list lent.
+fn scope_of(action: &ActionWord) -> ActionScope<'_> {
+    match action {
+        ActionWord::Any => ActionScope::Any,
+        ActionWord::Eq(e) => ActionScope::Eq(*e),
+        ActionWord::In(list) => ActionScope::In(list.as_slice()),
     }
 }
 
@@ -131,7 +138,12 @@ fn node_text(heap: Global, book: &NameBook, node: ConditionNode) -> Result<Strin
 }
 
 // `ok N NODE ...`
-fn nodes_text(heap: Global, book: &NameBook, nodes: &[ConditionNode], count: usize) -> Result<String, AllocError> {
+fn nodes_text(
+    heap: Global,
+    book: &NameBook,
+    nodes: &[ConditionNode],
+    count: usize,
+) -> Result<String, AllocError> {
     let mut line = format!(heap, "ok {count}")?;
     for node in nodes.iter().take(count) {
         let node = node_text(heap, book, *node)?;
@@ -154,23 +166,51 @@ fn room(args: &mut Args) -> Result<usize, Wrong> {
 }
 
 // `condition BODY [ROOM]`
-pub fn condition<B: ClauseBook>(heap: Global, args: &mut Args, book: &mut NameBook, clauses: &B) -> Result<String, Stop> {
+pub fn condition<B: ClauseBook>(
+    heap: Global,
+    args: &mut Args,
+    book: &mut NameBook,
+    clauses: &B,
+) -> Result<String, Stop> {
     let body = Body::read(heap, args, book)?;
     let room = room(args)?;
     let template = body.template(book, clauses)?;
     let mut buffer = [ConditionNode::And; MOST_NODES];
     let places = room.min(MOST_NODES);
-    let count = template.condition(book, clauses, &mut buffer[0..places])?;
-    Ok(nodes_text(heap, book, &buffer, count)?)
+    condition_in(heap, &template, book, clauses, &mut buffer[0..places])
+}
+
+// The condition of a template, written into a buffer and printed.
+fn condition_in<B: ClauseBook>(
+    heap: Global,
+    template: &Template,
+    book: &NameBook,
+    clauses: &B,
+    buffer: &mut [ConditionNode],
+) -> Result<String, Stop> {
+    let count = template.condition(book, clauses, buffer)?;
+    Ok(nodes_text(heap, book, buffer, count)?)
 }
 
 // `binding BODY PV RV`
-pub fn binding<B: ClauseBook>(heap: Global, args: &mut Args, book: &mut NameBook, clauses: &B) -> Result<String, Stop> {
+pub fn binding<B: ClauseBook>(
+    heap: Global,
+    args: &mut Args,
+    book: &mut NameBook,
+    clauses: &B,
+) -> Result<String, Stop> {
     let body = Body::read(heap, args, book)?;
     let principal = value(heap, next(args)?, book)?;
     let resource = value(heap, next(args)?, book)?;
     args.end()?;
     let template = body.template(book, clauses)?;
-    template.check_binding(SlotEnv { principal, resource }, book, clauses)?;
+    template.check_binding(
+        SlotEnv {
+            principal,
+            resource,
+        },
+        book,
+        clauses,
+    )?;
     Ok(String::from_str(heap, "ok")?)
 }

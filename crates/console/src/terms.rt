@@ -57,7 +57,11 @@ fn lone_colon(word: &[u8]) -> Option<usize> {
 }
 
 // TYPE:REF, divided at a colon that stands alone
-fn type_in(heap: Global, word: &[u8], book: &mut NameBook) -> Result<PrincipalOrResourceConstraint, Stop> {
+fn type_in(
+    heap: Global,
+    word: &[u8],
+    book: &mut NameBook,
+) -> Result<PrincipalOrResourceConstraint, Stop> {
     let Some(colon) = lone_colon(word) else {
         return Err(Stop::Wrong(Wrong::BadScope));
     };
@@ -70,7 +74,11 @@ fn type_in(heap: Global, word: &[u8], book: &mut NameBook) -> Result<PrincipalOr
 }
 
 // A principal or resource scope: any, eq:REF, in:REF, is:TYPE, isin:TYPE:REF
-pub fn scope(heap: Global, word: &[u8], book: &mut NameBook) -> Result<PrincipalOrResourceConstraint, Stop> {
+pub fn scope(
+    heap: Global,
+    word: &[u8],
+    book: &mut NameBook,
+) -> Result<PrincipalOrResourceConstraint, Stop> {
     if word == b"any" {
         return Ok(PrincipalOrResourceConstraint::Any);
     }
