@@ -1,3 +1,10 @@
+ghost use mathlib.Core.Path.{_≡_};
+ghost use mathlib.Core.List.{[], _∷_};
+ghost use Rattle.std.specs.Of.Vec.{vec-items};
+ghost use Rattle.std.specs.Options.{Cases as BySome};
+ghost use Rattle.std.specs.Results.{Cases as ByOk, okPart};
+ghost use Rattle.script.specs.Words.{words as words-of};
+ghost use Rattle.console.specs.Reading.{left, rest, next-text, next-number, Reads};
 use crate::stop::Stop;
 use crate::stop::StopFromAllocError;
 use crate::stop::StopFromWrong;
@@ -17,28 +24,30 @@ pub struct Args<'a> {
 
 impl<'a> Args<'a> {
     // All words of a line.
-    pub fn new(heap: Global, line: &'a [u8]) -> Args<'a> {
+    pub fn new(heap: Global, line: &'a [u8]) -> Args<'a>
+        ensures { λ r. ⌜ left r ≡ words-of (now (line .entry)) ⌝ }
+    {
         Args {
             heap,
             words: Words::new(line),
         }
     }
 
-    // The word that names the call; none in a blank line.
-    pub fn head(&mut self) -> Option<&'a [u8]> {
+    // The next word; none after the last.
+    pub fn next(&mut self) -> Option<&'a [u8]>
+        ensures { λ r. ⌜ BySome r ((left (now (self .entry)) ≡ []) × (left (now (self .exit)) ≡ [])) (λ word. left (now (self .entry)) ≡ now word ∷ left (now (self .exit))) ⌝ }
+    {
         self.words.next()
     }
 
-    fn word(&mut self) -> Result<&'a [u8], Wrong> {
-        match self.words.next() {
-            Some(word) => Ok(word),
-            None => Err(Wrong::MissingWord),
-        }
-    }
-
     // A text of any bytes.
-    pub fn text(&mut self) -> Result<Vec<u8>, Stop> {
-        let word = self.word()?;
+    pub fn text(&mut self) -> Result<Vec<u8>, Stop>
+        ensures text { λ r. ⌜ Reads vec-items r (next-text (left (now (self .entry)))) ⌝ }
+        ensures rest { λ _. ⌜ left (now (self .exit)) ≡ rest (left (now (self .entry))) ⌝ }
+    {
+        let Some(word) = self.next() else {
+            return Err(Stop::Wrong(Wrong::MissingWord));
+        };
         match decode(self.heap, word)? {
             Some(text) => Ok(text),
             None => Err(Stop::Wrong(Wrong::BadPercent)),
@@ -46,8 +55,13 @@ impl<'a> Args<'a> {
     }
 
     // The number of a name.
-    pub fn name_number(&mut self) -> Result<NameNumber, Wrong> {
-        let word = self.word()?;
+    pub fn name_number(&mut self) -> Result<NameNumber, Wrong>
+        ensures number { λ r. ⌜ okPart r ≡ next-number (left (now (self .entry))) ⌝ }
+        ensures rest { λ _. ⌜ left (now (self .exit)) ≡ rest (left (now (self .entry))) ⌝ }
+    {
+        let Some(word) = self.next() else {
+            return Err(Wrong::MissingWord);
+        };
         match read_number(word, NameNumber::MAX as u32) {
             Some(number) => Ok(number as NameNumber),
             None => Err(Wrong::BadNumber),
@@ -55,8 +69,10 @@ impl<'a> Args<'a> {
     }
 
     // No word may be left.
-    pub fn end(&mut self) -> Result<(), Wrong> {
-        match self.words.next() {
+    pub fn end(&mut self) -> Result<(), Wrong>
+        ensures { λ r. ⌜ ByOk r (λ _. left (now (self .entry)) ≡ []) (λ _. left (now (self .entry)) ≡ [] → ⊥) ⌝ }
+    {
+        match self.next() {
             Some(_) => Err(Wrong::ExtraWord),
             None => Ok(()),
         }

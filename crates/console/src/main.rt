@@ -1,9 +1,14 @@
 // Reads a script of calls from standard input and prints the answers.
+mod actions;
 mod args;
+mod clause_calls;
 mod name_calls;
+mod print;
 mod refused;
 mod session;
 mod stop;
+mod template_calls;
+mod terms;
 
 use session::Session;
 use std::error::AnyError;

@@ -1,3 +1,6 @@
+ghost use mathlib.Core.Path.{_≡_};
+ghost use Rattle.console.specs.Reading.{left, rest, Reads};
+ghost use Rattle.console.specs.Line.{name-word, argued, name-call, meant, Asks};
 use crate::args::Args;
 use crate::stop::Stop;
 use crate::stop::StopFromAllocError;
@@ -10,10 +13,20 @@ use names::type_name::is_type_name;
 use refusals::NameNumber;
 use script::encode::Colon;
 use script::encode::encode;
+use script::words::same_word;
 use std::alloc::AllocError;
 use std::alloc::Global;
 
-// A call on the name book.
+// The first word of a call on names.
+#[derive(Clone, Copy)]
+pub enum NameWord {
+    Name,
+    Text,
+    Type,
+    Action,
+}
+
+// A call on names.
 #[derive(Drop)]
 pub enum NameCall {
     Name(Vec<u8>),
@@ -22,24 +35,54 @@ pub enum NameCall {
     Action(Vec<u8>),
 }
 
+impl NameWord {
+    // The call that a line's first word names; none where it is no call on names.
+    pub fn of(head: &[u8]) -> Option<NameWord>
+        ensures { λ r. ⌜ r ≡ name-word (now (head .entry)) ⌝ }
+    {
+        if same_word(head, b"name") {
+            Some(NameWord::Name)
+        } else if same_word(head, b"text") {
+            Some(NameWord::Text)
+        } else if same_word(head, b"type") {
+            Some(NameWord::Type)
+        } else if same_word(head, b"action") {
+            Some(NameWord::Action)
+        } else {
+            None
+        }
+    }
+
+    // Reads the argument of the call.
+    fn argument(self, args: &mut Args) -> Result<NameCall, Stop>
+        ensures call { λ r. ⌜ Reads meant r (argued self (left (now (args .entry)))) ⌝ }
+        ensures rest { λ _. ⌜ left (now (args .exit)) ≡ rest (left (now (args .entry))) ⌝ }
+    {
+        Ok(
+            match self {
+                NameWord::Name => NameCall::Name(args.text()?),
+                NameWord::Text => NameCall::Text(args.name_number()?),
+                NameWord::Type => NameCall::Type(args.text()?),
+                NameWord::Action => NameCall::Action(args.text()?),
+            },
+        )
+    }
+
+    // Reads the call, to the end of the line.
+    pub fn read(self, args: &mut Args) -> Result<NameCall, Stop>
+        ensures { λ r. ⌜ Asks r (name-call self (left (now (args .entry)))) ⌝ }
+    {
+        let call = self.argument(args)?;
+        args.end()?;
+        Ok(call)
+    }
+}
+
 fn yes_or_no(heap: Global, yes: bool) -> Result<String, AllocError> {
     String::from_str(heap, if yes { "yes" } else { "no" })
 }
 
 impl NameCall {
-    // The call that a line makes, by the line's first word; none where it is no call on names.
-    pub fn read(head: &[u8], args: &mut Args) -> Result<Option<NameCall>, Stop> {
-        let call = match head {
-            b"name" => NameCall::Name(args.text()?),
-            b"text" => NameCall::Text(args.name_number()?),
-            b"type" => NameCall::Type(args.text()?),
-            b"action" => NameCall::Action(args.text()?),
-            _ => return Ok(None),
-        };
-        args.end()?;
-        Ok(Some(call))
-    }
-
     // Makes the call, and answers as it is printed.
     pub fn make(self, heap: Global, book: &mut NameBook) -> Result<String, Stop> {
         match self {

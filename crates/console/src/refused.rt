@@ -1,15 +1,57 @@
+ghost use mathlib.Core.Path.{_≡_};
+ghost use mathlib.Core.List.{[], _∷_};
+ghost use Rattle.std.specs.Of.String.{string-bytes};
+ghost use Rattle.std.specs.Vec.{made};
+ghost use Rattle.std.specs.Written.{decimal};
+ghost use Rattle.names.specs.Book.{texts as texts-of};
+ghost use Rattle.console.specs.Printing.{spaced, table-word as table-name, value-words, refused-line};
+use crate::print::push_id;
+use crate::print::push_number;
+use crate::print::push_word;
 use names::kept::NameBook;
-use refusals::NameNumber;
 use refusals::refusal::Refusal;
 use refusals::refusal::Table;
-use script::encode::Colon;
-use script::encode::encode;
+use refusals::slots::SlotSet;
 use std::alloc::AllocError;
 use std::alloc::Global;
 
-// The id that a refusal carries, which is printed as its text.
-fn id(refusal: Refusal) -> Option<NameNumber> {
+// The name of a table.
+fn table_word(table: Table) -> &'static str
+    ensures { λ r. ⌜ now r ≡ table-name table ⌝ }
+{
+    match table {
+        Table::Templates => "templates",
+        Table::Policies => "policies",
+    }
+}
+
+// Puts the bits of two slot sets behind a line.
+fn push_slots(line: &mut String, unbound: SlotSet, extra: SlotSet) -> Result<(), AllocError>
+    ensures { λ r. ⌜ made r (λ _. string-bytes (now (line .exit)) ≡ spaced (string-bytes (now (line .entry))) (decimal (unbound .bits) ∷ decimal (extra .bits) ∷ [])) ⌝ }
+{
+    push_number(line, unbound.bits as usize)?;
+    push_number(line, extra.bits as usize)
+}
+
+// Puts the values of a refusal behind a line, ids as their texts.
+fn push_values(line: &mut String, book: &NameBook, refusal: Refusal) -> Result<(), AllocError>
+    ensures { λ r. ⌜ made r (λ _. string-bytes (now (line .exit)) ≡ spaced (string-bytes (now (line .entry))) (value-words (texts-of (now (book .entry))) refusal)) ⌝ }
+{
     match refusal {
+        Refusal::BookFull => Ok(()),
+        Refusal::UnknownName(number) => push_number(line, number as usize),
+        Refusal::UnknownClause(number) => push_number(line, number as usize),
+        Refusal::TooLong(number)
+        | Refusal::TooManyActions(number)
+        | Refusal::BadClause(number)
+        | Refusal::ShortBuffer(number) => push_number(line, number),
+        Refusal::UnexpectedSlot(slot) => push_number(line, slot.bit() as usize),
+        Refusal::ArityError(unbound, extra) => push_slots(line, unbound, extra),
+        Refusal::InvalidTemplate(invalid) => {
+            push_id(line, book, invalid.id)?;
+            push_number(line, invalid.fault.value() as usize)
+        }
+        Refusal::Full(table) => push_word(line, table_word(table)),
         Refusal::BadTypeName(id)
         | Refusal::SlotCacheMismatch(id)
         | Refusal::Occupied(id)
@@ -24,47 +66,16 @@ fn id(refusal: Refusal) -> Option<NameNumber> {
         | Refusal::RemoveTemplateWithLinksError(id)
         | Refusal::MissingTemplate(id)
         | Refusal::Slotless(id)
-        | Refusal::Crossed(id) => Some(id),
-        Refusal::InvalidTemplate(invalid) => Some(invalid.id),
-        _ => None,
+        | Refusal::Crossed(id) => push_id(line, book, id),
     }
 }
 
-// The text of an id, as it is printed.
-fn id_text(heap: Global, book: &NameBook, id: NameNumber) -> Result<String, AllocError> {
-    match book.text(id) {
-        Ok(text) => encode(heap, text, Colon::Coded),
-        Err(unknown) => unknown.number.to_string(heap),
-    }
-}
-
-// The first value of a refusal, as it is printed.
-fn first_value(
-    heap: Global,
-    book: &NameBook,
-    refusal: Refusal,
-    value: usize,
-) -> Result<String, AllocError> {
-    if let Some(id) = id(refusal) {
-        return id_text(heap, book, id);
-    }
-    match refusal {
-        Refusal::Full(Table::Templates) => String::from_str(heap, "templates"),
-        Refusal::Full(Table::Policies) => String::from_str(heap, "policies"),
-        _ => value.to_string(heap),
-    }
-}
-
-// The answer of a call that was refused.
-pub fn refused(heap: Global, book: &NameBook, refusal: Refusal) -> Result<String, AllocError> {
+// The line of a refusal.
+pub fn refused(heap: Global, book: &NameBook, refusal: Refusal) -> Result<String, AllocError>
+    ensures { λ r. ⌜ made r (λ line. string-bytes line ≡ refused-line (texts-of (now (book .entry))) refusal) ⌝ }
+{
     let number = refusal.number();
-    let (first, second) = refusal.values();
-    let Some(first) = first else {
-        return format!(heap, "refused {number}");
-    };
-    let first = first_value(heap, book, refusal, first)?;
-    match second {
-        Some(second) => format!(heap, "refused {number} {first} {second}"),
-        None => format!(heap, "refused {number} {first}"),
-    }
+    let mut line = format!(heap, "refused {number}")?;
+    push_values(&mut line, book, refusal)?;
+    Ok(line)
 }

@@ -2,3 +2,4 @@ mod FirstWord
 mod Spelling
 mod Encoding
 mod Numerals
+pub mod Splits

@@ -3,3 +3,5 @@ pub mod Front
 pub mod Cursor
 pub mod Percent
 pub mod Number
+pub mod Parts
+pub mod PartsLent

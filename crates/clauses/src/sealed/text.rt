@@ -1,15 +1,16 @@
 ghost use mathlib.Core.Path.{_≡_};
 ghost use Rattle.refusals.specs.declared.slots.SlotId.{SlotId as Slot};
+ghost use Rattle.refusals.specs.declared.slots.SlotId.the-variants.{Principal as PrincipalSlot, Resource as ResourceSlot};
 ghost use Rattle.clauses.specs.Slots.{Tells};
-ghost use Rattle.clauses.specs.Sealed.{stepped, slot-at-start, slots-seen, text-slots, text-constant, Spells};
+ghost use Rattle.clauses.specs.Sealed.{spelling, starts, stepped, slot-at-start, slots-seen, text-slots, text-constant, Spells};
 use crate::sealed::scanner::Scanner;
 use names::type_name::is_word;
 use refusals::slots::SlotId;
 use refusals::slots::SlotSet;
 
-// The slot that stands at the start of a text.
-fn slot_at_start(text: &[u8]) -> Option<SlotId>
-    ensures { λ r. ⌜ r ≡ slot-at-start (now (text .entry)) ⌝ }
+// Whether a text starts with `?principal`, and the word ends there.
+fn starts_with_principal(text: &[u8]) -> bool
+    ensures { λ r. ⌜ r ≡ starts (spelling PrincipalSlot) (now (text .entry)) ⌝ }
 {
     match text {
         [
@@ -25,7 +26,7 @@ fn slot_at_start(text: &[u8]) -> Option<SlotId>
             b'l',
             after_principal,
             ..
-        ] if is_word(*after_principal) => None,
+        ] if is_word(*after_principal) => false,
         [
             b'?',
             b'p',
@@ -38,7 +39,16 @@ fn slot_at_start(text: &[u8]) -> Option<SlotId>
             b'a',
             b'l',
             ..
-        ] => Some(SlotId::Principal),
+        ] => true,
+        _ => false,
+    }
+}
+
+// Whether a text starts with `?resource`, and the word ends there.
+fn starts_with_resource(text: &[u8]) -> bool
+    ensures { λ r. ⌜ r ≡ starts (spelling ResourceSlot) (now (text .entry)) ⌝ }
+{
+    match text {
         [
             b'?',
             b'r',
@@ -51,10 +61,23 @@ fn slot_at_start(text: &[u8]) -> Option<SlotId>
             b'e',
             after_resource,
             ..
-        ] if is_word(*after_resource) => None,
-        [b'?', b'r', b'e', b's', b'o', b'u', b'r', b'c', b'e', ..] => Some(SlotId::Resource),
-        _ => None,
+        ] if is_word(*after_resource) => false,
+        [b'?', b'r', b'e', b's', b'o', b'u', b'r', b'c', b'e', ..] => true,
+        _ => false,
     }
+}
+
+// The slot that stands at the start of a text.
+fn slot_at_start(text: &[u8]) -> Option<SlotId>
+    ensures { λ r. ⌜ r ≡ slot-at-start (now (text .entry)) ⌝ }
+{
+    if starts_with_principal(text) {
+        return Some(SlotId::Principal);
+    }
+    if starts_with_resource(text) {
+        return Some(SlotId::Resource);
+    }
+    None
 }
 
 impl Scanner {
