@@ -9,6 +9,7 @@ use crate::tables::Templates;
 pub mod additions;
 pub mod links;
 pub mod listing;
+pub mod policies;
 pub(crate) mod reads;
 pub mod removals;
 pub mod validate;

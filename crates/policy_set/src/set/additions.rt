@@ -20,7 +20,7 @@ use crate::rows::PolicyRow;
 use crate::set::PolicySet;
 
 // Refusal 9 of a template whose slots are not its condition's.
-fn cached_slots<B: ClauseBook>(t: &Template, clauses: &B) -> Result<(), Refusal>
+pub(crate) fn cached_slots<B: ClauseBook>(t: &Template, clauses: &B) -> Result<(), Refusal>
     ensures { λ r. ⌜ r ≡ slots-cached (B·ClauseBook .listed (now (clauses .entry))) (now (t .entry)) ⌝ }
 {
     if t.slots.bits == condition_slots(t, clauses).bits {

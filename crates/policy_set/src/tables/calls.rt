@@ -5,6 +5,7 @@ ghost use Prim.Native.Nat.{_<_};
 ghost use lib.ListN.{length};
 ghost use Rattle.policy_set.specs.Tables.{lookup, erase, moved-last, has-room};
 ghost use Rattle.policy_set.specs.Rows.{template-id, policy-id, member-id};
+ghost use Rattle.policy_set.specs.Answers.{or-inserted};
 ghost use Rattle.policy_set.specs.Held.{templates-in, policies-in, members-in};
 ghost use Rattle.std.specs.declared.option.Option.the-variants.{None};
 
@@ -74,6 +75,17 @@ impl Templates {
         ensures { λ _. ⌜ templates-in (now (self .exit)) ≡ templates-in (now (self .entry)) ++ row ∷ [] ⌝ }
     {
         self.used = keyed::append(&mut self.rows, self.used, row);
+    }
+
+    // Appends a row unless one of its key is there.
+    pub(crate) fn or_insert(&mut self, row: Template)
+        requires { ⌜ (lookup template-id (row .id) (templates-in (now self)) ≡ None → length (templates-in (now self)) < 64) ⌝ }
+        ensures { λ _. ⌜ templates-in (now (self .exit)) ≡ or-inserted row (templates-in (now (self .entry))) ⌝ }
+    {
+        match keyed::get(self.rows(), row.id) {
+            Some(_) => {}
+            None => self.push(row),
+        }
     }
 
     // Takes out the row of a key, if there is one.
