@@ -71,6 +71,7 @@ module _ (before after : Maps) (id : ℕ) (t : Option Template) (r : Option Poli
       old (Some s) None e n h = h
       old None (Some q) e n h = ap (λ (o : Option Template). q .link && passes has-slots o) (same-template k q n e) ∙ h
       old (Some s) (Some q) e n h = h
+
       go : (b : Bool) → eqb id k ≡ b → one-thing after (template-at after k) (row-at after k) ≡ true
       go true h = rw (here-template k h, here-row k h) (f .one)
       go false h = rw (other-template k h, other-row k h) (old (template-at before k) (row-at before k) refl h (one k))
@@ -81,6 +82,7 @@ module _ (before after : Maps) (id : ℕ) (t : Option Template) (r : Option Poli
       old : (p : Option PolicyRow) → row-at before k ≡ p → eqb id k ≡ false → valued before p ≡ true → valued after p ≡ true
       old None e n h = h
       old (Some q) e n h = ap (passes (λ (s : Template). eqb (value-slots (q .values)) (s .slots .bits))) (same-template k q n e) ∙ h
+
       go : (b : Bool) → eqb id k ≡ b → valued after (row-at after k) ≡ true
       go true h = rw (here-row k h) (f .values)
       go false h = rw (other-row k h) (old (row-at before k) refl h (val k))
@@ -104,11 +106,12 @@ module _ (before after : Maps) (id : ℕ) (t : Option Template) (r : Option Poli
     one = names-one-kept (old .one) f;
     values = valued-kept (old .values) f;
     scopes = scoped-kept (old .scopes) f;
-    members = same-members-kept (old .members) f }
+    members = same-members-kept (old .members) f;
+  }
 
 -- maps are equal where their lists are
 pub maps-equal : (m : Maps) (ts : List Template) (ps : List PolicyRow) (ms : List Member) → ts ≡ m .templates → ps ≡ m .policies → ms ≡ m .members
-  → record { templates = ts; policies = ps; members = ms } ≡ m
+    → record { templates = ts; policies = ps; members = ms } ≡ m
 maps-equal m ts ps ms a b c =
     ap (λ (us : List Template). maps us ps ms) a
     ∙ (ap (λ (qs : List PolicyRow). maps (m .templates) qs ms) b
@@ -119,23 +122,25 @@ maps-equal m ts ps ms a b c =
 
 -- the same of maps known by equations
 pub kept-as : (m : Maps) (ts : List Template) (ps : List PolicyRow) (ms : List Member) → ts ≡ m .templates → ps ≡ m .policies → ms ≡ m .members
-  → Kept m → Kept record { templates = ts; policies = ps; members = ms }
+    → Kept m → Kept record { templates = ts; policies = ps; members = ms }
 kept-as m ts ps ms a b c old = subst Kept (sym (maps-equal m ts ps ms a b c)) old
 
 -- where every id finds what it found
 pub kept-same : (before after : Maps) → ((k : ℕ) → template-at after k ≡ template-at before k) → ((k : ℕ) → row-at after k ≡ row-at before k)
-  → ((k : ℕ) → member-at after k ≡ member-at before k) → Kept before → Kept after
+    → ((k : ℕ) → member-at after k ≡ member-at before k) → Kept before → Kept after
 kept-same before after ts ps ms old = record {
-    one = λ k. rw (ts k, ps k) (things (template-at before k) (row-at before k) (old .one k));
-    values = λ k. rw (ps k) (given (row-at before k) (old .values k));
-    scopes = λ k. rw (ts k) (old .scopes k);
-    members = λ k. rw (ms k, ps k) (old .members k) }
+  one = λ k. rw (ts k, ps k) (things (template-at before k) (row-at before k) (old .one k));
+  values = λ k. rw (ps k) (given (row-at before k) (old .values k));
+  scopes = λ k. rw (ts k) (old .scopes k);
+  members = λ k. rw (ms k, ps k) (old .members k);
+}
   where
     things : (o : Option Template) (p : Option PolicyRow) → one-thing before o p ≡ true → one-thing after o p ≡ true
     things None None h = h
     things (Some s) None h = h
     things None (Some q) h = ap (λ (o : Option Template). q .link && passes has-slots o) (ts (q .template)) ∙ h
     things (Some s) (Some q) h = h
+
     given : (p : Option PolicyRow) → valued before p ≡ true → valued after p ≡ true
     given None h = h
     given (Some q) h = ap (passes (λ (s : Template). eqb (value-slots (q .values)) (s .slots .bits))) (ts (q .template)) ∙ h

@@ -94,7 +94,8 @@ abbrev pub with-policy : PolicyRow → Maps → Maps
 with-policy r m = record {
   templates = m .templates;
   policies = m .policies ++ r ∷ [];
-  members = m .members ++ member r ∷ [] }
+  members = m .members ++ member r ∷ [];
+}
 
 -- `add_static`: 1 and 2, 9, 10 and 27.
 abbrev pub add-static-answer : {C : Type 0} → ℕ → List (Clause C) → Maps → Template → Result (Unit {0}) Refusal
@@ -193,7 +194,8 @@ abbrev pub without-policy : ℕ → Maps → Maps
 without-policy id m = record {
   templates = m .templates;
   policies = erase policy-id id (m .policies);
-  members = erase member-id id (m .members) }
+  members = erase member-id id (m .members);
+}
 
 abbrev pub unlink-after : ℕ → Maps → ℕ → Maps
 unlink-after names m id = if-accepted (unlink-answer names m id) (without-policy id m) m

@@ -75,7 +75,7 @@ pub record Grants (same : ℕ → ℕ → Bool) (before after : Maps) (p : Parts
   -- its id was bound nowhere, and names it now, with the record of its template that the set has
   pub unbound : bound before (id-of p) ≡ false
   pub names-it : named after (id-of p)
-    ≡ policy record { template = kept-record (template-at before (p .template .id)) (p .template); link = p .link; values = p .values }
+      ≡ policy record { template = kept-record (template-at before (p .template .id)) (p .template); link = p .link; values = p .values }
   -- a record that the set has under its template's id is its template's equal
   pub equal : (s : Template) → template-at before (p .template .id) ≡ Some s → template-equal same s (p .template) ≡ true
   -- the template of a link comes along where its id was bound nowhere; else that id names what it named

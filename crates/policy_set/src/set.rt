@@ -1,7 +1,6 @@
 // Policy sets: what they hold and what they keep.
 ghost use Rattle.policy_set.specs.Held.{maps-in};
 ghost use Rattle.policy_set.specs.Sound.{NamesOne, Valued, Scoped, SameMembers};
-
 use crate::tables::Members;
 use crate::tables::Policies;
 use crate::tables::Templates;

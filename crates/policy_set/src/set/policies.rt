@@ -4,10 +4,13 @@ ghost use lib.ListN.{length};
 ghost use Rattle.clauses.specs.Book.{same-clause};
 ghost use Rattle.names.specs.Book.{texts};
 ghost use Rattle.policy.specs.Arity.{parts};
-ghost use Rattle.policy_set.specs.Answers.{id-of, other-template, link-fits, rows-fit, add-answer, add-after};
+ghost use Rattle.policy_set.specs.Answers.{id-of, row-for, other-template, link-fits, rows-fit, add-answer, add-after};
 ghost use Rattle.policy_set.specs.Laws.{Addition};
 ghost use Rattle.policy_set.specs.Meaning.{maps-of};
-
+use crate::rows::Member;
+use crate::rows::PolicyRow;
+use crate::set::PolicySet;
+use crate::set::additions::cached_slots;
 use clauses::book::ClauseBook;
 use names::kept::NameBook;
 use policy::bound::Policy;
@@ -17,10 +20,6 @@ use policy::template::Template;
 use refusals::NameNumber;
 use refusals::refusal::Refusal;
 use refusals::refusal::Table;
-use crate::rows::Member;
-use crate::rows::PolicyRow;
-use crate::set::PolicySet;
-use crate::set::additions::cached_slots;
 
 // The id of a policy: its link id, or its template's.
 pub(crate) fn id_of(policy: &Policy) -> NameNumber
@@ -29,6 +28,18 @@ pub(crate) fn id_of(policy: &Policy) -> NameNumber
     match policy.link {
         Some(id) => id,
         None => policy.template.id,
+    }
+}
+
+// The row of a policy.
+fn row_for(policy: &Policy) -> PolicyRow
+    ensures { λ r. ⌜ r ≡ row-for (parts (now (policy .entry))) ⌝ }
+{
+    PolicyRow {
+        id: id_of(policy),
+        template: policy.template.id,
+        link: policy.link.is_some(),
+        values: policy.values,
     }
 }
 
@@ -79,7 +90,12 @@ impl PolicySet {
     }
 
     // Whether `add` accepts, or why it does not.
-    fn can_add<B: ClauseBook>(&self, policy: &Policy, names: &NameBook, clauses: &B) -> Result<(), Refusal>
+    fn can_add<B: ClauseBook>(
+        &self,
+        policy: &Policy,
+        names: &NameBook,
+        clauses: &B,
+    ) -> Result<(), Refusal>
         ensures { λ r. ⌜ r ≡ add-answer (length (texts (now (names .entry)))) (B·ClauseBook .listed (now (clauses .entry))) (same-clause (B·ClauseBook .equal) (B·ClauseBook .listed (now (clauses .entry)))) (maps-of (now (self .entry))) (now (policy .entry)) ⌝ }
     {
         known_policy(policy, names.count(), clauses)?;
@@ -93,5 +109,27 @@ impl PolicySet {
         }
         self.link_fits(&policy.template, policy.link)?;
         self.rows_fit(&policy.template)
+    }
+
+    // Adds a policy, a static one or a link, and its template where that is new.
+    pub fn add<B: ClauseBook>(
+        &mut self,
+        policy: Policy,
+        names: &NameBook,
+        clauses: &B,
+    ) -> Result<(), Refusal>
+        ensures answer { λ r. ⌜ r ≡ add-answer (length (texts (now (names .entry)))) (B·ClauseBook .listed (now (clauses .entry))) (same-clause (B·ClauseBook .equal) (B·ClauseBook .listed (now (clauses .entry)))) (maps-of (now (self .entry))) policy ⌝ }
+        ensures after { λ _. ⌜ maps-of (now (self .exit)) ≡ add-after (length (texts (now (names .entry)))) (B·ClauseBook .listed (now (clauses .entry))) (same-clause (B·ClauseBook .equal) (B·ClauseBook .listed (now (clauses .entry)))) (maps-of (now (self .entry))) policy ⌝ }
+        ensures law { λ r. ⌜ Addition (same-clause (B·ClauseBook .equal) (B·ClauseBook .listed (now (clauses .entry)))) (maps-of (now (self .entry))) (maps-of (now (self .exit))) (parts policy) r ⌝ }
+    {
+        self.can_add(&policy, names, clauses)?;
+        let row = row_for(&policy);
+        self.templates.or_insert(policy.template);
+        self.policies.push(row);
+        self.members.push(Member {
+            policy: row.id,
+            template: row.template,
+        });
+        Ok(())
     }
 }

@@ -8,14 +8,6 @@ ghost use Rattle.policy_set.specs.Rows.{template-id, policy-id, member-id};
 ghost use Rattle.policy_set.specs.Answers.{or-inserted};
 ghost use Rattle.policy_set.specs.Held.{templates-in, policies-in, members-in};
 ghost use Rattle.std.specs.declared.option.Option.the-variants.{None};
-
-use policy::action::ActionConstraint;
-use policy::constraint::Effect;
-use policy::constraint::PrincipalOrResourceConstraint;
-use policy::template::Template;
-use policy::values::SlotEnv;
-use refusals::NameNumber;
-use refusals::slots::SlotSet;
 use crate::keyed;
 use crate::rows::Member;
 use crate::rows::MemberKeyed;
@@ -25,6 +17,13 @@ use crate::rows::TemplateKeyed;
 use crate::tables::Members;
 use crate::tables::Policies;
 use crate::tables::Templates;
+use policy::action::ActionConstraint;
+use policy::constraint::Effect;
+use policy::constraint::PrincipalOrResourceConstraint;
+use policy::template::Template;
+use policy::values::SlotEnv;
+use refusals::NameNumber;
+use refusals::slots::SlotSet;
 
 // What stands in an unused place.
 const BLANK_TEMPLATE: Template = Template {
@@ -41,17 +40,26 @@ const BLANK_POLICY: PolicyRow = PolicyRow {
     id: 0,
     template: 0,
     link: false,
-    values: SlotEnv { principal: None, resource: None },
+    values: SlotEnv {
+        principal: None,
+        resource: None,
+    },
 };
 
-const BLANK_MEMBER: Member = Member { policy: 0, template: 0 };
+const BLANK_MEMBER: Member = Member {
+    policy: 0,
+    template: 0,
+};
 
 impl Templates {
     // No templates.
     pub(crate) fn new() -> Templates
         ensures { λ r. ⌜ templates-in r ≡ [] ⌝ }
     {
-        Templates { rows: [BLANK_TEMPLATE; 64], used: 0 }
+        Templates {
+            rows: [BLANK_TEMPLATE; 64],
+            used: 0,
+        }
     }
 
     // The rows, in order.
@@ -101,7 +109,10 @@ impl Policies {
     pub(crate) fn new() -> Policies
         ensures { λ r. ⌜ policies-in r ≡ [] ⌝ }
     {
-        Policies { rows: [BLANK_POLICY; 256], used: 0 }
+        Policies {
+            rows: [BLANK_POLICY; 256],
+            used: 0,
+        }
     }
 
     // The rows, in order.
@@ -150,7 +161,10 @@ impl Members {
     pub(crate) fn new() -> Members
         ensures { λ r. ⌜ members-in r ≡ [] ⌝ }
     {
-        Members { rows: [BLANK_MEMBER; 256], used: 0 }
+        Members {
+            rows: [BLANK_MEMBER; 256],
+            used: 0,
+        }
     }
 
     // The rows, in order.
