@@ -35,7 +35,7 @@ whole-same before after q e = ap (λ (o : Option Template). parts (present o)) e
 
 -- every other id names what it named
 pub named-other : (before after : Maps) (id : ℕ) (t : Option Template) (r : Option PolicyRow) (x : Option Member) → Update before after id t r x
-  → (k : ℕ) → (k ≡ id → ⊥) → named after k ≡ named before k
+    → (k : ℕ) → (k ≡ id → ⊥) → named after k ≡ named before k
 named-other before after id t r x u k n =
     let f : eqb id k ≡ false = ne-eqb id k (λ e. n (sym e)) in
     ap (λ (o : Option Template). thing o (in-force after k)) (other-template before after id t r x u k f)
@@ -67,42 +67,47 @@ kept-erase key k p [] h = refl
 kept-erase {X} key k p (y ∷ xs) h = go (kept-erase key k p xs (once-tail key y xs h)) (eqb (key y) k) (p y) refl refl
   where
     go : kept-by p (erase key k xs) ≡ erase key k (kept-by p xs) → (b c : Bool) → eqb (key y) k ≡ b → p y ≡ c
-      → kept-by p (cond b xs (y ∷ erase key k xs)) ≡ erase key k (cond c (y ∷ kept-by p xs) (kept-by p xs))
+        → kept-by p (cond b xs (y ∷ erase key k xs)) ≡ erase key k (cond c (y ∷ kept-by p xs) (kept-by p xs))
     go ih true true e q = sym (ap (λ b. cond b (kept-by p xs) (y ∷ erase key k (kept-by p xs))) e)
     go ih true false e q =
-      let z : times key k (kept-by p xs) ≡ 0 = omega (arith, times-kept key k p xs, times-none key k xs (once-head key y xs k h e)) in
-      sym (erase-absent key k (kept-by p xs) z)
+        let z : times key k (kept-by p xs) ≡ 0 = omega (arith, times-kept key k p xs, times-none key k xs (once-head key y xs k h e)) in
+        sym (erase-absent key k (kept-by p xs) z)
     go ih false true e q =
-      ap (λ c. cond c (y ∷ kept-by p (erase key k xs)) (kept-by p (erase key k xs))) q
-      ∙ (ap (λ ys. y ∷ ys) ih ∙ sym (ap (λ b. cond b (kept-by p xs) (y ∷ erase key k (kept-by p xs))) e))
+        ap (λ c. cond c (y ∷ kept-by p (erase key k xs)) (kept-by p (erase key k xs))) q
+        ∙ (ap (λ ys. y ∷ ys) ih ∙ sym (ap (λ b. cond b (kept-by p xs) (y ∷ erase key k (kept-by p xs))) e))
     go ih false false e q = ap (λ c. cond c (y ∷ kept-by p (erase key k xs)) (kept-by p (erase key k xs))) q ∙ ih
 
 -- one thing is removed
 pub removes : (before after : Maps) (id : ℕ) (it : Thing) → Once member-id (before .members) → Update before after id None None None
-  → after .members ≡ erase member-id id (before .members) → named before id ≡ it → Removes before after id it
+    → after .members ≡ erase member-id id (before .members) → named before id ≡ it → Removes before after id it
 removes before after id it h u m e =
     let here = eq-eqb id id refl in
     record {
       named-it = e;
       unbound = ap (λ (o : Option Template). isSome o || isSome (row-at after id)) (here-template before after id None None None u id here)
-        ∙ ap isSome (here-row before after id None None None u id here);
+          ∙ ap isSome (here-row before after id None None None u id here);
       others = named-other before after id None None None u;
-      in-no-reverse-set = λ t. omega (arith, times-kept member-id id (is-under t) (after .members),
-        times-none member-id id (after .members) (here-member before after id None None None u id here));
-      reverse-sets = λ t. ap (kept-by (is-under t)) m ∙ kept-erase member-id id (is-under t) (before .members) h }
+      in-no-reverse-set = λ t. omega (
+        arith,
+        times-kept member-id id (is-under t) (after .members),
+        times-none member-id id (after .members) (here-member before after id None None None u id here),
+      );
+      reverse-sets = λ t. ap (kept-by (is-under t)) m ∙ kept-erase member-id id (is-under t) (before .members) h;
+    }
 
 -- one thing is added
 pub adds : (before after : Maps) (id : ℕ) (it : Thing) (t : Option Template) (r : Option PolicyRow) (x : Option Member) (members : List Member)
-  → template-at before id ≡ None → row-at before id ≡ None → Update before after id t r x
-  → after .members ≡ before .members ++ members → thing t (changed (whole after) r) ≡ it → Adds before after id it members
+    → template-at before id ≡ None → row-at before id ≡ None → Update before after id t r x
+    → after .members ≡ before .members ++ members → thing t (changed (whole after) r) ≡ it → Adds before after id it members
 adds before after id it t r x members a b u m e =
     let here = eq-eqb id id refl in
     record {
       unbound = ap (λ (o : Option Template). isSome o || isSome (row-at before id)) a ∙ ap isSome b;
       names-it = ap (λ (o : Option Template). thing o (in-force after id)) (here-template before after id t r x u id here)
-        ∙ (ap (λ (o : Option PolicyRow). thing t (changed (whole after) o)) (here-row before after id t r x u id here) ∙ e);
+          ∙ (ap (λ (o : Option PolicyRow). thing t (changed (whole after) o)) (here-row before after id t r x u id here) ∙ e);
       others = named-other before after id t r x u;
-      reverse-sets = λ j. ap (kept-by (is-under j)) m ∙ kept-by-append (is-under j) (before .members) members }
+      reverse-sets = λ j. ap (kept-by (is-under j)) m ∙ kept-by-append (is-under j) (before .members) members;
+    }
 
 -- a refused call leaves the maps as they were
 pub refused : (m : Maps) (e : Refusal) → Refused m m e

@@ -12,4 +12,5 @@ pub mod Changes
 pub mod Removed
 pub mod Listings
 pub mod Validates
+pub mod Granted
 pub mod Sets

@@ -144,17 +144,17 @@ once-moved {X} key k xs ys e h = subst (λ zs. Once key zs) (sym e) (go (lookup 
 
 -- what each key finds after one change
 pub lookup-pushed : {X : Type 0} (key : X → ℕ) (xs : List X) (x : X) (k : ℕ) → lookup key (key x) xs ≡ None
-  → lookup key k (xs ++ x ∷ []) ≡ cond (eqb (key x) k) (Some x) (lookup key k xs)
+    → lookup key k (xs ++ x ∷ []) ≡ cond (eqb (key x) k) (Some x) (lookup key k xs)
 lookup-pushed {X} key xs x k n = lookup-push key k xs x ∙ go (eqb (key x) k) refl
   where
     go : (b : Bool) → eqb (key x) k ≡ b → or-else (lookup key k xs) (cond b (Some x) None) ≡ cond b (Some x) (lookup key k xs)
     go true e =
-      let z : lookup key k xs ≡ None = subst (λ j. lookup key j xs ≡ None) (eqb-true _ _ e) n in
-      rw z
+        let z : lookup key k xs ≡ None = subst (λ j. lookup key j xs ≡ None) (eqb-true _ _ e) n in
+        rw z
     go false e = or-none _
 
 pub lookup-erased : {X : Type 0} (key : X → ℕ) (a : ℕ) (xs : List X) (k : ℕ) → Once key xs
-  → lookup key k (erase key a xs) ≡ cond (eqb a k) None (lookup key k xs)
+    → lookup key k (erase key a xs) ≡ cond (eqb a k) None (lookup key k xs)
 lookup-erased {X} key a xs k h = go (eqb a k) refl
   where
     go : (b : Bool) → eqb a k ≡ b → lookup key k (erase key a xs) ≡ cond b None (lookup key k xs)

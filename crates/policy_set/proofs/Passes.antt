@@ -24,5 +24,5 @@ module _ {X : Type 0} (p : X → Bool) (xs : List X) (i : ℕ) (x : X) (h : i < 
 
   pub passing-next : (n : ℕ) → p x ≡ true → (n ≡ 0 → ⊥) → nth (kept-by p (drop (i + 1) xs)) (n - 1) ≡ nth (kept-by p (drop i xs)) n
   passing-next n t z =
-    let s : suc (n - 1) ≡ n = omega (arith, z) in
-    sym (ap (λ (ys : List X). nth ys n) (here t) ∙ sym (ap (nth (x ∷ kept-by p (drop (i + 1) xs))) s))
+      let s : suc (n - 1) ≡ n = omega (arith, z) in
+      sym (ap (λ (ys : List X). nth ys n) (here t) ∙ sym (ap (nth (x ∷ kept-by p (drop (i + 1) xs))) s))

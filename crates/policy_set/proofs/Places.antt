@@ -137,9 +137,9 @@ moved-found {X} key k xs i f = go (lookup key k xs) refl
             first-of [] h = absurd (omega arith)
             first-of (y ∷ ys) h = y
     go (Some x) e =
-      let d : drop i xs ≡ getD xs i x ∷ drop (i + 1) xs = drop-more xs i x (f .within) in
-      let v : getD xs i x ≡ x = let q = f .row x in cc in
-      ap (λ (ys : List X). without i xs ++ take 1 ys) d
+        let d : drop i xs ≡ getD xs i x ∷ drop (i + 1) xs = drop-more xs i x (f .within) in
+        let v : getD xs i x ≡ x = let q = f .row x in cc in
+        ap (λ (ys : List X). without i xs ++ take 1 ys) d
         ∙ (ap (λ y. without i xs ++ y ∷ []) v
         ∙ ap (λ (ys : List X). ys ++ x ∷ []) (sym (f .erased) ∙ ap (λ j. erase key j xs) (sym (lookup-key key k xs x e))))
 
@@ -149,21 +149,21 @@ length-moved {X} key k xs = go (lookup key k xs) refl
     go : (o : Option X) → lookup key k xs ≡ o → length (row-last key o xs) ≡ length xs
     go None e = refl
     go (Some x) e =
-      let n = lookup-key key k xs x e in
-      let l : length (erase key (key x) xs) + 1 ≡ length xs = ap (λ j. length (erase key j xs) + 1) n ∙ length-erase key k xs x e in
-      length-push (erase key (key x) xs) x ∙ l
+        let n = lookup-key key k xs x e in
+        let l : length (erase key (key x) xs) + 1 ≡ length xs = ap (λ j. length (erase key j xs) + 1) n ∙ length-erase key k xs x e in
+        length-push (erase key (key x) xs) x ∙ l
 
 pub moved-front : {X : Type 0} (key : X → ℕ) (k : ℕ) (xs zs post : List X) (used i : ℕ) → used ≤ length xs → Found key k (take used xs) i
-  → zs ≡ without i (take (used - 0) xs) ++ take 1 (drop i (take (used - 0) xs)) → take used (zs ++ post) ≡ moved-last key k (take used xs)
+    → zs ≡ without i (take (used - 0) xs) ++ take 1 (drop i (take (used - 0) xs)) → take used (zs ++ post) ≡ moved-last key k (take used xs)
 moved-front {X} key k xs zs post used i l f e =
     let m : zs ≡ moved-last key k (take used xs) =
-      e ∙ (ap (λ m. without i (take m xs) ++ take 1 (drop i (take m xs))) (sub-zero used) ∙ moved-found key k (take used xs) i f) in
+    e ∙ (ap (λ m. without i (take m xs) ++ take 1 (drop i (take m xs))) (sub-zero used) ∙ moved-found key k (take used xs) i f) in
     let n : length zs ≡ used = ap length m ∙ (length-moved key k (take used xs) ∙ length-take-le used xs l) in
     take-at zs post used n ∙ m
 
 -- tables with the same keys are equally long
 pub length-by-keys : {X Y : Type 0} (f : X → ℕ) (g : Y → ℕ) (xs : List X) (ys : List Y) → Once f xs → Once g ys
-  → ((k : ℕ) → isSome (lookup f k xs) ≡ isSome (lookup g k ys)) → length xs ≡ length ys
+    → ((k : ℕ) → isSome (lookup f k xs) ≡ isSome (lookup g k ys)) → length xs ≡ length ys
 length-by-keys f g [] [] a b same = refl
 length-by-keys f g [] (y ∷ ys) a b same =
     let e : isSome (lookup g (g y) (y ∷ ys)) ≡ true = ap isSome (cond-true _ (Some y) (lookup g (g y) ys) (eq-eqb (g y) (g y) refl)) in
@@ -177,8 +177,8 @@ length-by-keys {X} {Y} f g (x ∷ xs) ys a b same =
       where
         go : (c : Bool) → eqb (f x) k ≡ c → isSome (lookup f k xs) ≡ isSome (lookup g k (erase g (f x) ys))
         go true e =
-          ap isSome (once-head f x xs k a e)
-          ∙ sym (ap isSome (subst (λ j. lookup g j (erase g (f x) ys) ≡ None) (eqb-true _ _ e) (lookup-erase-same g (f x) ys b)))
+            ap isSome (once-head f x xs k a e)
+            ∙ sym (ap isSome (subst (λ j. lookup g j (erase g (f x) ys) ≡ None) (eqb-true _ _ e) (lookup-erase-same g (f x) ys b)))
         go false e =
-          ap isSome (sym (cond-false _ (Some x) (lookup f k xs) e))
-          ∙ (same k ∙ ap isSome (sym (lookup-erase-other g (f x) k ys (eqb-false _ _ e))))
+            ap isSome (sym (cond-false _ (Some x) (lookup f k xs) e))
+            ∙ (same k ∙ ap isSome (sym (lookup-erase-other g (f x) k ys (eqb-false _ _ e))))

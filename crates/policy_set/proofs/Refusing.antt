@@ -16,7 +16,7 @@ use Rattle.policy_set.specs.Answers.{linked-answer}
 
 -- what a test that went before says
 pub then-refused : {X Y : Type 0} (first : Result (Unit {0}) Refusal) (e : Refusal) (x : X) (rest : Result Y Refusal)
-  → _≡_ {A = Result X Refusal} (Err e) (and-then first (Ok x)) → Err e ≡ and-then first rest
+    → _≡_ {A = Result X Refusal} (Err e) (and-then first (Ok x)) → Err e ≡ and-then first rest
 then-refused (Ok u) e x rest q = let z : _≡_ {A = ℕ} 0 1 = cc in absurd (omega arith)
 then-refused (Err d) e x rest q = let z : e ≡ d = cc in ap Err z
 
@@ -25,5 +25,5 @@ then-accepted (Ok u) x y q = (refl, cc)
 then-accepted (Err d) x y q = let z : _≡_ {A = ℕ} 0 1 = cc in absurd (omega arith)
 
 pub linked-taken : (m : Maps) (new : ℕ) (values : SlotEnv) (t : Template) → bindable (t .slots) values ≡ Ok tt → bound m new ≡ true
-  → Err (PolicyIdConflict new) ≡ linked-answer m new values t
+    → Err (PolicyIdConflict new) ≡ linked-answer m new values t
 linked-taken m new values t binds b = rw (binds, b) refl

@@ -20,18 +20,18 @@ use Rattle.policy_set.specs.Sound.{scopes-within}
 module _ {C : Type 0} (cs : List (Clause C)) (lawful : Lawful cs) (t : Template) (cached : t .slots .bits ≡ condition-slots cs t .bits) where
   has-part : (slot : SlotId) → has slot (t .slots) ≡ part-has cs (t .principal) (t .resource) (t .clause) slot
   has-part slot =
-    ap (has-bit slot) cached ∙ (has-where (λ s. mentioned cs s (written (condition-tree cs t))) slot ∙ here-condition cs slot lawful t)
+      ap (has-bit slot) cached ∙ (has-where (λ s. mentioned cs s (written (condition-tree cs t))) slot ∙ here-condition cs slot lawful t)
 
   principal-within : (b : Bool) → slotted (t .principal) ≡ b → (not b || has Principal (t .slots)) ≡ true
   principal-within false e = refl
   principal-within true e =
-    has-part Principal ∙ ap (λ p. ((p && true) || (slotted (t .resource) && false)) || clause-has cs (t .clause) Principal) e
+      has-part Principal ∙ ap (λ p. ((p && true) || (slotted (t .resource) && false)) || clause-has cs (t .clause) Principal) e
 
   resource-within : (b : Bool) → slotted (t .resource) ≡ b → (not b || has Resource (t .slots)) ≡ true
   resource-within false e = refl
   resource-within true e =
-    has-part Resource
-    ∙ (ap (λ r. ((slotted (t .principal) && false) || (r && true)) || clause-has cs (t .clause) Resource) e ∙ either (slotted (t .principal)) (clause-has cs (t .clause) Resource))
+      has-part Resource
+      ∙ (ap (λ r. ((slotted (t .principal) && false) || (r && true)) || clause-has cs (t .clause) Resource) e ∙ either (slotted (t .principal)) (clause-has cs (t .clause) Resource))
     where
       either : (p c : Bool) → (((p && false) || true) || c) ≡ true
       either true c = refl

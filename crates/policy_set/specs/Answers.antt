@@ -10,19 +10,21 @@ use Rattle.std.specs.declared.result.Result.the-variants.{Ok, Err}
 use Rattle.std.specs.Options.{isSome}
 use Rattle.std.specs.shelf.Lists.{kept-by}
 use Rattle.refusals.specs.declared.refusal.Refusal.{Refusal}
-use Rattle.refusals.specs.declared.refusal.Refusal.the-variants.{SlotCacheMismatch, Occupied, NoSuchTemplate, PolicyIdConflict, NotLinkError, UnlinkingError, RemovePolicyNoLinkError, RemovePolicyNoTemplateError, NotTemplateError, RemoveTemplateNoTemplateError, RemoveTemplateWithLinksError, Slotless, Full}
+use Rattle.refusals.specs.declared.refusal.Refusal.the-variants.{SlotCacheMismatch, Occupied, NoSuchTemplate, PolicyIdConflict, NotLinkError, UnlinkingError, RemovePolicyNoLinkError, RemovePolicyNoTemplateError, NotTemplateError, RemoveTemplateNoTemplateError, RemoveTemplateWithLinksError, Slotless, Crossed, Full}
 use Rattle.refusals.specs.declared.refusal.Table.the-variants.{Templates, Policies}
-use Rattle.policy.specs.Known.{and-then, names-known, values-names, template-known}
+use Rattle.policy.specs.Known.{and-then, names-known, values-names, template-known, policy-known}
+use Rattle.policy.specs.Equality.{template-equal}
 use Rattle.policy.specs.Mentions.{condition-slots}
 use Rattle.clauses.specs.Book.{Clause}
-use Rattle.policy.specs.Arity.{Parts, bindable}
+use Rattle.policy.specs.Arity.{Parts, parts, bindable}
+use Rattle.policy.specs.declared.bound.Policy.{Policy}
 use Rattle.policy.specs.declared.values.SlotEnv.{SlotEnv}
 use Rattle.policy.specs.declared.template.Template.{Template}
 use Rattle.policy_set.specs.declared.rows.PolicyRow.{PolicyRow}
 use Rattle.policy_set.specs.declared.rows.Member.{Member}
-use Rattle.policy_set.specs.Tables.{erase, moved-last, has-room}
+use Rattle.policy_set.specs.Tables.{lookup, erase, moved-last, has-room}
 use Rattle.policy_set.specs.Rows.{template-id, policy-id, member-id}
-use Rattle.policy_set.specs.Maps.{Maps, template-at, row-at, in-force, bound}
+use Rattle.policy_set.specs.Maps.{Maps, template-at, row-at, passes, in-force, bound}
 use Rattle.policy_set.specs.Sound.{has-slots, member}
 
 -- A refusal where a test says yes.
@@ -92,7 +94,8 @@ abbrev pub with-policy : PolicyRow → Maps → Maps
 with-policy r m = record {
   templates = m .templates;
   policies = m .policies ++ r ∷ [];
-  members = m .members ++ member r ∷ [] }
+  members = m .members ++ member r ∷ [];
+}
 
 -- `add_static`: 1 and 2, 9, 10 and 27.
 abbrev pub add-static-answer : {C : Type 0} → ℕ → List (Clause C) → Maps → Template → Result (Unit {0}) Refusal
@@ -117,6 +120,45 @@ row-for p = record { id = id-of p; template = p .template .id; link = isSome (p 
 
 abbrev pub add-static-after : {C : Type 0} → ℕ → List (Clause C) → Maps → Template → Maps
 add-static-after names cs m t = if-accepted (add-static-answer names cs m t) (with-policy (row-for (static-parts t)) (with-template t m)) m
+
+-- An unequal template has the template's id; clauses are compared by `same`.
+abbrev pub other-template : (ℕ → ℕ → Bool) → Maps → Template → Bool
+other-template same m t = passes (λ s. not (template-equal same s t)) (template-at m (t .id))
+
+-- Of a link, 25 and 26: the link id is its template's; a new template's id is a policy's; the link id is a template's.
+abbrev pub link-fits : Maps → Template → Option ℕ → Result (Unit {0}) Refusal
+link-fits m t None = Ok tt
+link-fits m t (Some id) =
+    and-then (refuse-if (not (has-slots t)) (Slotless (t .id)))
+    (and-then (refuse-if (eqb id (t .id)) (Crossed id))
+    (and-then (refuse-if (not (isSome (template-at m (t .id))) && isSome (row-at m (t .id))) (Crossed (t .id)))
+    (refuse-if (isSome (template-at m id)) (Crossed id))))
+
+-- 27: a new template and a policy have a place.
+abbrev pub rows-fit : Maps → Template → Result (Unit {0}) Refusal
+rows-fit m t =
+    and-then (refuse-if (not (isSome (template-at m (t .id))) && not (has-room 64 (m .templates))) (Full Templates))
+    (refuse-if (not (has-room 256 (m .policies))) (Full Policies))
+
+-- `add`: 1 and 2, 9, 10 of the template and of the policy, 25 and 26 of a link, 27.
+abbrev pub add-answer : {C : Type 0} → ℕ → List (Clause C) → (ℕ → ℕ → Bool) → Maps → Policy → Result (Unit {0}) Refusal
+add-answer names cs same m p =
+    and-then (policy-known names cs p)
+    (and-then (slots-cached cs (p .template))
+    (and-then (refuse-if (other-template same m (p .template)) (Occupied (p .template .id)))
+    (and-then (refuse-if (isSome (row-at m (id-of (parts p)))) (Occupied (id-of (parts p))))
+    (and-then (link-fits m (p .template) (p .link))
+    (rows-fit m (p .template))))))
+
+-- A template that is there keeps its record and its place; a new one goes last.
+abbrev pub or-inserted : Template → List Template → List Template
+or-inserted t ts = cond (isSome (lookup template-id (t .id) ts)) ts (ts ++ t ∷ [])
+
+abbrev pub with-or-inserted : Template → Maps → Maps
+with-or-inserted t m = record { templates = or-inserted t (m .templates); policies = m .policies; members = m .members }
+
+abbrev pub add-after : {C : Type 0} → ℕ → List (Clause C) → (ℕ → ℕ → Bool) → Maps → Policy → Maps
+add-after names cs same m p = if-accepted (add-answer names cs same m p) (with-policy (row-for (parts p)) (with-or-inserted (p .template) m)) m
 
 -- The link of a template: 12, 13, 25 and 27; else the new policy.
 abbrev pub linked-answer : Maps → ℕ → SlotEnv → Template → Result Parts Refusal
@@ -152,7 +194,8 @@ abbrev pub without-policy : ℕ → Maps → Maps
 without-policy id m = record {
   templates = m .templates;
   policies = erase policy-id id (m .policies);
-  members = erase member-id id (m .members) }
+  members = erase member-id id (m .members);
+}
 
 abbrev pub unlink-after : ℕ → Maps → ℕ → Maps
 unlink-after names m id = if-accepted (unlink-answer names m id) (without-policy id m) m

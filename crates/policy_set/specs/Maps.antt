@@ -54,7 +54,8 @@ blank-template = record {
   action = action.Any;
   resource = scope.Any;
   clause = None;
-  slots = record { bits = 0; «two_bits» = lit< tt } }
+  slots = record { bits = 0; «two_bits» = lit< tt };
+}
 
 -- The template that is there.
 abbrev pub present : Option Template → Template

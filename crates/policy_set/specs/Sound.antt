@@ -78,14 +78,14 @@ pub record Sound (m : Maps) : Type 0 where
   pub alone : (k : ℕ) (t : Template) → template-at m k ≡ Some t → row-at m k ≡ None → t .slots .bits ≡ 0 → ⊥
   -- an id among both is that of a static policy
   pub static : (k : ℕ) (t : Template) (r : PolicyRow) → template-at m k ≡ Some t → row-at m k ≡ Some r
-    → (r .template ≡ k) × (r .link ≡ false) × (t .slots .bits ≡ 0)
+      → (r .template ≡ k) × (r .link ≡ false) × (t .slots .bits ≡ 0)
   -- an id among the policies alone is that of a link of a template with slots
   pub link : (k : ℕ) (r : PolicyRow) → template-at m k ≡ None → row-at m k ≡ Some r
-    → (r .link ≡ true) × ((t : Template) × (template-at m (r .template) ≡ Some t) × (t .slots .bits ≡ 0 → ⊥))
+      → (r .link ≡ true) × ((t : Template) × (template-at m (r .template) ≡ Some t) × (t .slots .bits ≡ 0 → ⊥))
   -- the members are the policies, each under its template
   pub members : (k : ℕ) → member-at m k ≡ changed member (row-at m k)
   -- each policy has values for exactly its template's slots
   pub values : (k : ℕ) (r : PolicyRow) (t : Template) → row-at m k ≡ Some r → template-at m (r .template) ≡ Some t
-    → value-slots (r .values) ≡ t .slots .bits
+      → value-slots (r .values) ≡ t .slots .bits
   -- each template's scopes keep to its slots
   pub scopes : (k : ℕ) (t : Template) → template-at m k ≡ Some t → scopes-within t ≡ true

@@ -1,7 +1,6 @@
 // Policy sets: what they hold and what they keep.
 ghost use Rattle.policy_set.specs.Held.{maps-in};
 ghost use Rattle.policy_set.specs.Sound.{NamesOne, Valued, Scoped, SameMembers};
-
 use crate::tables::Members;
 use crate::tables::Policies;
 use crate::tables::Templates;
@@ -9,6 +8,7 @@ use crate::tables::Templates;
 pub mod additions;
 pub mod links;
 pub mod listing;
+pub mod policies;
 pub(crate) mod reads;
 pub mod removals;
 pub mod validate;

@@ -4,10 +4,9 @@ ghost use Prim.Native.Nat.{_≤_};
 ghost use lib.ListN.{length, take};
 ghost use Rattle.policy_set.specs.Tables.{Once};
 ghost use Rattle.policy_set.specs.Rows.{template-id, policy-id, member-id};
-
-use policy::template::Template;
 use crate::rows::Member;
 use crate::rows::PolicyRow;
+use policy::template::Template;
 
 pub(crate) mod calls;
 

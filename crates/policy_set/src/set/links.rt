@@ -8,7 +8,10 @@ ghost use Rattle.policy.specs.Known.{names-known, values-names};
 ghost use Rattle.policy_set.specs.Answers.{link-answer, link-after, linked-answer};
 ghost use Rattle.policy_set.specs.Laws.{Linking};
 ghost use Rattle.policy_set.specs.Meaning.{maps-of};
-
+use crate::rows::Member;
+use crate::rows::PolicyRow;
+use crate::set::PolicySet;
+use crate::set::reads::known;
 use names::kept::NameBook;
 use policy::binding::linked;
 use policy::bound::Policy;
@@ -18,13 +21,14 @@ use policy::values::SlotEnv;
 use refusals::NameNumber;
 use refusals::refusal::Refusal;
 use refusals::refusal::Table;
-use crate::rows::Member;
-use crate::rows::PolicyRow;
-use crate::set::PolicySet;
-use crate::set::reads::known;
 
 // Refusal 1 of the names that `link` is given.
-fn known_link(names: &NameBook, template: NameNumber, new: NameNumber, values: SlotEnv) -> Result<(), Refusal>
+fn known_link(
+    names: &NameBook,
+    template: NameNumber,
+    new: NameNumber,
+    values: SlotEnv,
+) -> Result<(), Refusal>
     ensures { λ r. ⌜ r ≡ names-known (length (texts (now (names .entry)))) (template ∷ new ∷ values-names values) ⌝ }
 {
     known(names, template)?;
@@ -34,7 +38,12 @@ fn known_link(names: &NameBook, template: NameNumber, new: NameNumber, values: S
 
 impl PolicySet {
     // The link of a template, or why there is none.
-    fn linked(&self, template: &Template, new: NameNumber, values: SlotEnv) -> Result<Policy, Refusal>
+    fn linked(
+        &self,
+        template: &Template,
+        new: NameNumber,
+        values: SlotEnv,
+    ) -> Result<Policy, Refusal>
         ensures { λ r. ⌜ parts-of r ≡ linked-answer (maps-of (now (self .entry))) new values (now (template .entry)) ⌝ }
     {
         let policy = linked(template, new, values)?;
@@ -51,7 +60,13 @@ impl PolicySet {
     }
 
     // The policy that `link` makes, or why it makes none.
-    fn new_link(&self, template_id: NameNumber, new_id: NameNumber, values: SlotEnv, names: &NameBook) -> Result<Policy, Refusal>
+    fn new_link(
+        &self,
+        template_id: NameNumber,
+        new_id: NameNumber,
+        values: SlotEnv,
+        names: &NameBook,
+    ) -> Result<Policy, Refusal>
         ensures { λ r. ⌜ parts-of r ≡ link-answer (length (texts (now (names .entry)))) (maps-of (now (self .entry))) «template_id» «new_id» values ⌝ }
     {
         known_link(names, template_id, new_id, values)?;
@@ -62,14 +77,28 @@ impl PolicySet {
     }
 
     // Links a template under a new id; the new policy.
-    pub fn link(&mut self, template_id: NameNumber, new_id: NameNumber, values: SlotEnv, names: &NameBook) -> Result<Policy, Refusal>
+    pub fn link(
+        &mut self,
+        template_id: NameNumber,
+        new_id: NameNumber,
+        values: SlotEnv,
+        names: &NameBook,
+    ) -> Result<Policy, Refusal>
         ensures answer { λ r. ⌜ parts-of r ≡ link-answer (length (texts (now (names .entry)))) (maps-of (now (self .entry))) «template_id» «new_id» values ⌝ }
         ensures after { λ _. ⌜ maps-of (now (self .exit)) ≡ link-after (length (texts (now (names .entry)))) (maps-of (now (self .entry))) «template_id» «new_id» values ⌝ }
         ensures law { λ r. ⌜ Linking (maps-of (now (self .entry))) (maps-of (now (self .exit))) «template_id» «new_id» (parts-of r) ⌝ }
     {
         let policy = self.new_link(template_id, new_id, values, names)?;
-        self.policies.push(PolicyRow { id: new_id, template: template_id, link: true, values });
-        self.members.push(Member { policy: new_id, template: template_id });
+        self.policies.push(PolicyRow {
+            id: new_id,
+            template: template_id,
+            link: true,
+            values,
+        });
+        self.members.push(Member {
+            policy: new_id,
+            template: template_id,
+        });
         Ok(policy)
     }
 }

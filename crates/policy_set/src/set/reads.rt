@@ -11,13 +11,6 @@ ghost use Rattle.policy_set.specs.Handed.{parts-found};
 ghost use Rattle.policy.specs.Arity.{parts};
 ghost use Rattle.policy.specs.Known.{names-known};
 ghost use Rattle.policy_set.specs.Meaning.{maps-of};
-
-use names::kept::NameBook;
-use policy::bound::Policy;
-use policy::known::known_name;
-use policy::template::Template;
-use refusals::NameNumber;
-use refusals::refusal::Refusal;
 use crate::keyed;
 use crate::passing::Test;
 use crate::passing::nth_passing;
@@ -29,6 +22,12 @@ use crate::set::PolicySet;
 use crate::tables::Members;
 use crate::tables::Policies;
 use crate::tables::Templates;
+use names::kept::NameBook;
+use policy::bound::Policy;
+use policy::known::known_name;
+use policy::template::Template;
+use refusals::NameNumber;
+use refusals::refusal::Refusal;
 
 // Refusal 1 of a name that the book lacks.
 pub(crate) fn known(names: &NameBook, id: NameNumber) -> Result<(), Refusal>
@@ -61,7 +60,11 @@ impl PolicySet {
     pub fn new() -> PolicySet
         ensures { λ r. ⌜ maps-of r ≡ empty ⌝ }
     {
-        PolicySet { templates: Templates::new(), policies: Policies::new(), members: Members::new() }
+        PolicySet {
+            templates: Templates::new(),
+            policies: Policies::new(),
+            members: Members::new(),
+        }
     }
 
     // Whether there is neither a template nor a policy.
@@ -125,7 +128,11 @@ impl PolicySet {
             Some(template) => template,
             None => unreachable(),
         };
-        Some(Policy { template, link: link_id(&row), values: row.values })
+        Some(Policy {
+            template,
+            link: link_id(&row),
+            values: row.values,
+        })
     }
 
     // The policy with an id, if there is one.
@@ -137,7 +144,11 @@ impl PolicySet {
     }
 
     // The template with an id, if there is one; a static policy's body too.
-    pub fn get_template(&self, id: NameNumber, names: &NameBook) -> Result<Option<Template>, Refusal>
+    pub fn get_template(
+        &self,
+        id: NameNumber,
+        names: &NameBook,
+    ) -> Result<Option<Template>, Refusal>
         ensures { λ r. ⌜ r ≡ get-template-answer (length (texts (now (names .entry)))) (maps-of (now (self .entry))) id ⌝ }
     {
         known(names, id)?;

@@ -6,14 +6,13 @@ ghost use Rattle.policy_set.specs.Answers.{unlink-answer, unlink-after, remove
 ghost use Rattle.policy.specs.Arity.{parts-of};
 ghost use Rattle.policy_set.specs.Laws.{Removal, TemplateRemoval};
 ghost use Rattle.policy_set.specs.Meaning.{maps-of};
-
+use crate::set::PolicySet;
+use crate::set::reads::known;
 use names::kept::NameBook;
 use policy::bound::Policy;
 use policy::template::Template;
 use refusals::NameNumber;
 use refusals::refusal::Refusal;
-use crate::set::PolicySet;
-use crate::set::reads::known;
 
 impl PolicySet {
     // The link that `unlink` removes, or why there is none.

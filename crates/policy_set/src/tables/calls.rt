@@ -5,16 +5,9 @@ ghost use Prim.Native.Nat.{_<_};
 ghost use lib.ListN.{length};
 ghost use Rattle.policy_set.specs.Tables.{lookup, erase, moved-last, has-room};
 ghost use Rattle.policy_set.specs.Rows.{template-id, policy-id, member-id};
+ghost use Rattle.policy_set.specs.Answers.{or-inserted};
 ghost use Rattle.policy_set.specs.Held.{templates-in, policies-in, members-in};
 ghost use Rattle.std.specs.declared.option.Option.the-variants.{None};
-
-use policy::action::ActionConstraint;
-use policy::constraint::Effect;
-use policy::constraint::PrincipalOrResourceConstraint;
-use policy::template::Template;
-use policy::values::SlotEnv;
-use refusals::NameNumber;
-use refusals::slots::SlotSet;
 use crate::keyed;
 use crate::rows::Member;
 use crate::rows::MemberKeyed;
@@ -24,6 +17,13 @@ use crate::rows::TemplateKeyed;
 use crate::tables::Members;
 use crate::tables::Policies;
 use crate::tables::Templates;
+use policy::action::ActionConstraint;
+use policy::constraint::Effect;
+use policy::constraint::PrincipalOrResourceConstraint;
+use policy::template::Template;
+use policy::values::SlotEnv;
+use refusals::NameNumber;
+use refusals::slots::SlotSet;
 
 // What stands in an unused place.
 const BLANK_TEMPLATE: Template = Template {
@@ -40,17 +40,26 @@ const BLANK_POLICY: PolicyRow = PolicyRow {
     id: 0,
     template: 0,
     link: false,
-    values: SlotEnv { principal: None, resource: None },
+    values: SlotEnv {
+        principal: None,
+        resource: None,
+    },
 };
 
-const BLANK_MEMBER: Member = Member { policy: 0, template: 0 };
+const BLANK_MEMBER: Member = Member {
+    policy: 0,
+    template: 0,
+};
 
 impl Templates {
     // No templates.
     pub(crate) fn new() -> Templates
         ensures { λ r. ⌜ templates-in r ≡ [] ⌝ }
     {
-        Templates { rows: [BLANK_TEMPLATE; 64], used: 0 }
+        Templates {
+            rows: [BLANK_TEMPLATE; 64],
+            used: 0,
+        }
     }
 
     // The rows, in order.
@@ -76,6 +85,17 @@ impl Templates {
         self.used = keyed::append(&mut self.rows, self.used, row);
     }
 
+    // Appends a row unless one of its key is there.
+    pub(crate) fn or_insert(&mut self, row: Template)
+        requires { ⌜ (lookup template-id (row .id) (templates-in (now self)) ≡ None → length (templates-in (now self)) < 64) ⌝ }
+        ensures { λ _. ⌜ templates-in (now (self .exit)) ≡ or-inserted row (templates-in (now (self .entry))) ⌝ }
+    {
+        match keyed::get(self.rows(), row.id) {
+            Some(_) => {}
+            None => self.push(row),
+        }
+    }
+
     // Takes out the row of a key, if there is one.
     pub(crate) fn remove(&mut self, id: NameNumber)
         ensures { λ _. ⌜ templates-in (now (self .exit)) ≡ erase template-id id (templates-in (now (self .entry))) ⌝ }
@@ -89,7 +109,10 @@ impl Policies {
     pub(crate) fn new() -> Policies
         ensures { λ r. ⌜ policies-in r ≡ [] ⌝ }
     {
-        Policies { rows: [BLANK_POLICY; 256], used: 0 }
+        Policies {
+            rows: [BLANK_POLICY; 256],
+            used: 0,
+        }
     }
 
     // The rows, in order.
@@ -138,7 +161,10 @@ impl Members {
     pub(crate) fn new() -> Members
         ensures { λ r. ⌜ members-in r ≡ [] ⌝ }
     {
-        Members { rows: [BLANK_MEMBER; 256], used: 0 }
+        Members {
+            rows: [BLANK_MEMBER; 256],
+            used: 0,
+        }
     }
 
     // The rows, in order.

@@ -44,7 +44,7 @@ ghost-self g c =
     let n = new-static (length (texts (c .args .names .now))) cs (maps-of set) t (c .in-Continue-can-add-static .ensures tt) in
     let w = within cs (g .B·ClauseBook·met .lawful (c .args .clauses .now)) t (n .cached) in
     let k = kept-as (with-policy row (with-template t (maps-of set))) (templates-in (c .push .last .self)) (policies-in (c .push-2 .last .self)) (members-in (c .push-3 .last .self))
-      (c .push .ensures) (c .push-2 .ensures) (c .push-3 .ensures) (static-added-kept (maps-of set) t row own (sound set) (kept-in set) (n .template-free) (n .policy-free) w) in
+    (c .push .ensures) (c .push-2 .ensures) (c .push-3 .ensures) (static-added-kept (maps-of set) t row own (sound set) (kept-in set) (n .template-free) (n .policy-free) w) in
     (k .one, (k .values, (k .scopes, (k .members, tt))))
 
 pub returns : need.returns
@@ -61,5 +61,5 @@ returns g c =
     record {
       answer = c .in-Continue-can-add-static .ensures tt;
       after = e ∙ accepted-after answer after (maps-of set) tt (c .in-Continue-can-add-static .ensures tt);
-      law = subst (λ (m : Maps). Adds (maps-of set) m (t .id) (policy (static-parts t)) (member row ∷ [])) (sym e) (static-adds (maps-of set) t row own (sound set) (n .template-free) (n .policy-free))
+      law = subst (λ (m : Maps). Adds (maps-of set) m (t .id) (policy (static-parts t)) (member row ∷ [])) (sym e) (static-adds (maps-of set) t row own (sound set) (n .template-free) (n .policy-free));
     }

@@ -29,7 +29,7 @@ ghost-self g c =
     let n = new-template (length (texts (c .args .names .now))) cs (maps-of set) t (c .in-Continue-can-add-template .ensures tt) in
     let w = within cs (g .B·ClauseBook·met .lawful (c .args .clauses .now)) t (n .cached) in
     let k = kept-as (with-template t (maps-of set)) (templates-in (c .push .last .self)) (policies-in (set .policies)) (members-in (set .members))
-      (c .push .ensures) refl refl (template-added-kept (maps-of set) t (sound set) (kept-in set) (n .template-free) (n .policy-free) (n .has-slots) w) in
+    (c .push .ensures) refl refl (template-added-kept (maps-of set) t (sound set) (kept-in set) (n .template-free) (n .policy-free) (n .has-slots) w) in
     (k .one, (k .values, (k .scopes, (k .members, tt))))
 
 pub returns : need.returns
@@ -43,5 +43,5 @@ returns g c =
     record {
       answer = c .in-Continue-can-add-template .ensures tt;
       after = e ∙ accepted-after answer (with-template t (maps-of set)) (maps-of set) tt (c .in-Continue-can-add-template .ensures tt);
-      law = subst (λ (m : Maps). Adds (maps-of set) m (t .id) (template t) []) (sym e) (template-adds (maps-of set) t (sound set) (n .template-free) (n .policy-free))
+      law = subst (λ (m : Maps). Adds (maps-of set) m (t .id) (template t) []) (sym e) (template-adds (maps-of set) t (sound set) (n .template-free) (n .policy-free));
     }

@@ -9,8 +9,11 @@ pub ghost-result : need.ghost-result
 ghost-result c =
     let set = c .args .self .now in
     let row = c .in-Some .row in
-    let template = c .in-Some-template .template in
-    ( sound set .values (c .args .id) row template (sym (c .in-Some .ensures tt)) (sym (c .in-Some-template .ensures tt))
-    , ( ap (λ o. static-unbound o (template .slots .bits)) (c .link-id .ensures)
-        ∙ unlinked-slotless (maps-of set) (sound set) (c .args .id) row template (sym (c .in-Some .ensures tt)) (sym (c .in-Some-template .ensures tt))
-      , tt ) )
+    let template = c .in-Some-template .template in (
+      sound set .values (c .args .id) row template (sym (c .in-Some .ensures tt)) (sym (c .in-Some-template .ensures tt)),
+      (
+        ap (λ o. static-unbound o (template .slots .bits)) (c .link-id .ensures)
+            ∙ unlinked-slotless (maps-of set) (sound set) (c .args .id) row template (sym (c .in-Some .ensures tt)) (sym (c .in-Some-template .ensures tt)),
+        tt,
+      ),
+    )

@@ -38,10 +38,10 @@ ghost-self c =
     let row = link-row (c .args .template-id) (c .args .new-id) (c .args .values) in
     let l = link-of-template (length (texts (c .args .names .now))) (maps-of set) (c .args .template-id) (c .args .new-id) (c .args .values) (parts p) (c .in-Continue-policy .ensures tt) in
     let exact : value-slots (c .args .values) ≡ l .0 .slots .bits =
-      ap (λ (q : Parts). value-slots (q .values)) (sym (l .2 .made)) ∙ (p .exact ∙ ap (λ (q : Parts). q .template .slots .bits) (l .2 .made)) in
+    ap (λ (q : Parts). value-slots (q .values)) (sym (l .2 .made)) ∙ (p .exact ∙ ap (λ (q : Parts). q .template .slots .bits) (l .2 .made)) in
     let k = kept-as (with-policy row (maps-of set)) (templates-in (set .templates)) (policies-in (c .push .last .self)) (members-in (c .push-2 .last .self))
-      refl (c .push .ensures) (c .push-2 .ensures)
-      (link-added-kept (maps-of set) row (l .0) (sound set) (kept-in set) (l .2 .template-free) (l .2 .policy-free) refl (l .1) (l .2 .has-slots) exact) in
+    refl (c .push .ensures) (c .push-2 .ensures)
+    (link-added-kept (maps-of set) row (l .0) (sound set) (kept-in set) (l .2 .template-free) (l .2 .policy-free) refl (l .1) (l .2 .has-slots) exact) in
     (k .one, (k .values, (k .scopes, (k .members, tt))))
 
 pub returns : need.returns
@@ -56,6 +56,6 @@ returns c =
       answer = c .in-Continue-policy .ensures tt;
       after = e ∙ accepted-after answer (with-policy row (maps-of set)) (maps-of set) p (c .in-Continue-policy .ensures tt);
       law = subst (λ (m : Maps). Adds (maps-of set) m (c .args .new-id) (policy p) (member row ∷ [])) (sym e)
-        (subst (λ (q : Parts). Adds (maps-of set) (with-policy row (maps-of set)) (c .args .new-id) (policy q) (member row ∷ [])) (sym (l .2 .made))
-          (link-adds (maps-of set) row (l .0) (sound set) (l .2 .template-free) (l .2 .policy-free) refl (l .1)))
+          (subst (λ (q : Parts). Adds (maps-of set) (with-policy row (maps-of set)) (c .args .new-id) (policy q) (member row ∷ [])) (sym (l .2 .made))
+          (link-adds (maps-of set) row (l .0) (sound set) (l .2 .template-free) (l .2 .policy-free) refl (l .1)));
     }

@@ -20,7 +20,7 @@ ghost-self c =
     let id = c .args .id in
     let u = removable (length (texts (c .args .names .now))) (maps-of set) id (c .in-Continue-template .template) (c .in-Continue-template .ensures tt) in
     let k = kept-as (without-template id (maps-of set)) (templates-in (c .remove .last .self)) (policies-in (set .policies)) (members-in (set .members))
-      (c .remove .ensures) refl refl (template-removed-kept (maps-of set) id (sound set) (kept-in set) (u .no-policy) (u .no-members)) in
+    (c .remove .ensures) refl refl (template-removed-kept (maps-of set) id (sound set) (kept-in set) (u .no-policy) (u .no-members)) in
     (k .one, (k .values, (k .scopes, (k .members, tt))))
 
 pub returns : need.returns
@@ -33,5 +33,5 @@ returns c =
     record {
       answer = c .in-Continue-template .ensures tt;
       after = e ∙ accepted-after (remove-template-answer (length (texts (c .args .names .now))) (maps-of set) id) (without-template id (maps-of set)) (maps-of set) t (c .in-Continue-template .ensures tt);
-      law = subst (λ (m : Maps). Removes (maps-of set) m id (template t)) (sym e) (template-removes (maps-of set) id t (sound set) (u .template) (u .no-policy) (u .no-members))
+      law = subst (λ (m : Maps). Removes (maps-of set) m id (template t)) (sym e) (template-removes (maps-of set) id t (sound set) (u .template) (u .no-policy) (u .no-members));
     }

@@ -21,7 +21,7 @@ ghost-self c =
     let id = c .args .id in
     let u = unlinkable (length (texts (c .args .names .now))) (maps-of set) id (parts (c .in-Continue-policy .policy)) (c .in-Continue-policy .ensures tt) in
     let k = kept-as (without-policy id (maps-of set)) (templates-in (set .templates)) (policies-in (c .remove .last .self)) (members-in (c .remove-2 .last .self))
-      refl (c .remove .ensures) (c .remove-2 .ensures) (link-removed-kept (maps-of set) id (sound set) (kept-in set) (u .no-template)) in
+    refl (c .remove .ensures) (c .remove-2 .ensures) (link-removed-kept (maps-of set) id (sound set) (kept-in set) (u .no-template)) in
     (k .one, (k .values, (k .scopes, (k .members, tt))))
 
 pub returns : need.returns
@@ -31,9 +31,9 @@ returns c =
     let p = parts (c .in-Continue-policy .policy) in
     let u = unlinkable (length (texts (c .args .names .now))) (maps-of set) id p (c .in-Continue-policy .ensures tt) in
     let e = maps-equal (without-policy id (maps-of set)) (templates-in (set .templates)) (policies-in (c .remove .last .self)) (members-in (c .remove-2 .last .self))
-      refl (c .remove .ensures) (c .remove-2 .ensures) in
+    refl (c .remove .ensures) (c .remove-2 .ensures) in
     record {
       answer = c .in-Continue-policy .ensures tt;
       after = e ∙ accepted-after (unlink-answer (length (texts (c .args .names .now))) (maps-of set) id) (without-policy id (maps-of set)) (maps-of set) p (c .in-Continue-policy .ensures tt);
-      law = subst (λ (m : Maps). Removes (maps-of set) m id (policy p)) (sym e) (link-removes (maps-of set) id p (sound set) (u .no-template) (u .policy))
+      law = subst (λ (m : Maps). Removes (maps-of set) m id (policy p)) (sym e) (link-removes (maps-of set) id p (sound set) (u .no-template) (u .policy));
     }

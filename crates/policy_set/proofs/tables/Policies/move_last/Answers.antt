@@ -22,10 +22,14 @@ pub ghost-self : need.ghost-self
 ghost-self c =
     let table = c .args .self .now in
     let fits : table .used ≤ length (table .rows) = omega arith in
-    let f = found-in policy-id (c .args .id) (table .rows) (table .used) (c .in-Some .i) fits (c .in-Some .ensures tt) in
-    (table .room,
-      (once-moved policy-id (c .args .id) (policies-in table) _
-        (moved-front policy-id (c .args .id) (table .rows) (c .move-last .last .rows) _ (table .used) (c .in-Some .i) fits f (c .move-last .ensures)) (table .once), tt))
+    let f = found-in policy-id (c .args .id) (table .rows) (table .used) (c .in-Some .i) fits (c .in-Some .ensures tt) in (
+      table .room,
+      (
+        once-moved policy-id (c .args .id) (policies-in table) _
+            (moved-front policy-id (c .args .id) (table .rows) (c .move-last .last .rows) _ (table .used) (c .in-Some .i) fits f (c .move-last .ensures)) (table .once),
+        tt,
+      ),
+    )
 
 pub returns-in-Some : need.returns-in-Some
 returns-in-Some c =

@@ -8,7 +8,11 @@ use Rattle.policy_set.proofs.tables.Templates.push.Needs as need
 
 pub ghost-self : need.ghost-self
 ghost-self c =
-    let table = c .args .self .now in
-    (omega (arith, c .pre .room, c .append-self .ensures .count, length-take-le (table .used) (table .rows) (omega arith)),
-      (once-pushed template-id (templates-in table) (take (c .append-self .result) (c .append-self .last .rows)) (c .args .row)
-        (c .append-self .ensures .after) (table .once) (c .pre .new), tt))
+    let table = c .args .self .now in (
+      omega (arith, c .pre .room, c .append-self .ensures .count, length-take-le (table .used) (table .rows) (omega arith)),
+      (
+        once-pushed template-id (templates-in table) (take (c .append-self .result) (c .append-self .last .rows)) (c .args .row)
+            (c .append-self .ensures .after) (table .once) (c .pre .new),
+        tt,
+      ),
+    )

@@ -7,7 +7,11 @@ use Rattle.policy_set.proofs.tables.Templates.remove.Needs as need
 
 pub ghost-self : need.ghost-self
 ghost-self c =
-    let table = c .args .self .now in
-    (omega (arith, c .remove-self .ensures .count),
-      (once-erased template-id (c .args .id) (templates-in table) (take (c .remove-self .result) (c .remove-self .last .rows))
-        (c .remove-self .ensures .after) (table .once), tt))
+    let table = c .args .self .now in (
+      omega (arith, c .remove-self .ensures .count),
+      (
+        once-erased template-id (c .args .id) (templates-in table) (take (c .remove-self .result) (c .remove-self .last .rows))
+            (c .remove-self .ensures .after) (table .once),
+        tt,
+      ),
+    )
