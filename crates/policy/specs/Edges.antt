@@ -1,9 +1,10 @@
--- Edge cases of conditions and of binding, by computation.
+-- Edge cases of conditions, of binding and of sealed texts, by computation.
 use mathlib.Core.Path.{_≡_, refl}
 use mathlib.Core.Bool.{Bool, true, false}
 use mathlib.Core.List.{List, [], _∷_}
 use Prim.Native.Nat.{ℕ}
 use lib.ListN.{length}
+use lib.Chars.{codes}
 use lib.Dec.{lit≤}
 use Rattle.std.specs.declared.option.Option.{Option}
 use Rattle.std.specs.declared.option.Option.the-variants.{Some, None}
@@ -14,6 +15,7 @@ use Rattle.refusals.specs.declared.slots.SlotId.the-variants as slot
 use Rattle.refusals.specs.declared.refusal.Refusal.{Refusal}
 use Rattle.names.specs.declared.entity.EntityUID.{EntityUID}
 use Rattle.clauses.specs.Book.{Clause}
+use Rattle.clauses.specs.Sealed.{text-slots}
 use Rattle.clauses.specs.Tree.{written}
 use Rattle.policy.specs.declared.constraint.Effect.the-variants.{Permit}
 use Rattle.policy.specs.declared.constraint.EntityReference.the-variants.{EUID, Slot}
@@ -67,3 +69,8 @@ pub record Edges : Type 0 where
   -- a value for the principal, a slot for the resource: refusal 12 with the slots 2 and 1
   pub crossed-values : refusal-of (bindable (slots-where (λ s. slot-equal s slot.Resource)) (record { principal = Some someone; resource = None }))
       ≡ Some (12, 2 ∷ 1 ∷ [])
+  -- sealed `?principals` and `"?principal"` have no slot
+  pub longer-word : text-slots (codes "?principals") ≡ 0
+  pub in-string : text-slots (codes "\"?principal\"") ≡ 0
+  -- `?resource == a` has one
+  pub resource-slot : text-slots (codes "?resource == a") ≡ 2

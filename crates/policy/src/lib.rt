@@ -12,7 +12,7 @@ pub mod known;
 pub mod list;
 pub mod making;
 pub mod node;
-pub mod nodes;
+pub(crate) mod nodes;
 pub mod scope;
 pub mod slot_set;
 pub mod statics;
