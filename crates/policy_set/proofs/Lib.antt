@@ -6,3 +6,8 @@ pub mod Sounds
 pub mod Updates
 pub mod Removed
 pub mod Sets
+mod PutAll
+mod Equals
+mod Gathered
+mod FinalIds
+mod NamedAfter

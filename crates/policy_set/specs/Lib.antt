@@ -6,3 +6,5 @@ pub mod Answers
 pub mod Handed
 pub mod Held
 pub mod Meaning
+pub mod Merge
+pub mod MergeLaw
