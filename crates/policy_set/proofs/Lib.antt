@@ -11,3 +11,7 @@ mod Equals
 mod Gathered
 mod FinalIds
 mod NamedAfter
+mod MergedSound
+mod ReverseSets
+mod MergeLaws
+pub mod Tallies

@@ -8,3 +8,4 @@ pub mod Held
 pub mod Meaning
 pub mod Merge
 pub mod MergeLaw
+pub mod Tally
