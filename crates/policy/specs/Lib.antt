@@ -1,2 +1,16 @@
 pub mod Padding
 pub mod Binding
+pub mod Scopes
+pub mod Equality
+pub mod Equal
+pub mod Known
+pub mod Slots
+pub mod Arity
+pub mod Hierarchy
+pub mod Value
+pub mod Meaning
+pub mod Filling
+pub mod Condition
+pub mod Nodes
+pub mod Answer
+pub mod Evaluation

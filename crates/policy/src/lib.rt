@@ -1,6 +1,15 @@
 pub mod action;
+pub mod binding;
 pub mod bound;
+pub mod condition;
 pub mod constraint;
+pub mod equality;
+pub mod fill;
 pub mod fixed;
+pub mod known;
+pub mod list;
+pub mod node;
+pub mod nodes;
+pub mod slot_set;
 pub mod template;
 pub mod values;

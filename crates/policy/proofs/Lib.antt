@@ -1,0 +1,15 @@
+pub mod Lists
+pub mod Records
+pub mod Deciding
+pub mod Testing
+pub mod Bits
+pub mod Exact
+pub mod Reached
+pub mod Filled
+pub mod Ends
+pub mod Joined
+pub mod Steps
+pub mod Trees
+pub mod Propers
+pub mod Worth
+pub mod Worded
