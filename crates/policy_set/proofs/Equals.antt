@@ -15,7 +15,7 @@ use Rattle.policy_set.specs.declared.rows.PolicyRow.{PolicyRow}
 use Rattle.policy_set.specs.Maps.{Parts, changed, link-of}
 use Rattle.policy_set.specs.Merge.{parts-equal, renamed-template, renamed-policy}
 use Rattle.policy_set.proofs.Lookups.{no-some}
-use Rattle.policy_set.proofs.PutAll.{no-true}
+use Rattle.policy_set.proofs.Sounds.{no-true}
 
 pub record SameTemplate (same : ℕ → ℕ → Bool) (s t : Template) : Type 0 where
   pub id : s .id ≡ t .id

@@ -18,10 +18,11 @@ use Rattle.policy_set.specs.Maps.{Maps, template-at, row-at, bound, Thing, nam
 use Rattle.policy_set.specs.Maps.Thing.{nothing, template, policy}
 use Rattle.policy_set.specs.Sound.{Sound}
 use Rattle.policy_set.specs.Merge.{things-equal, gathered, old-id, new-id, new-or, final, old-or, origin}
-use Rattle.policy_set.specs.MergeLaw.{clash, old-ids, Chosen, FinalIds, itself}
-use Rattle.policy_set.proofs.Lookups.{no-some, some-same, lookup-key, none-times, times-none}
-use Rattle.policy_set.proofs.PutAll.{no-true, once-finds}
-use Rattle.policy_set.proofs.Gathered.{gathered-times}
+use Rattle.policy_set.specs.MergeLaw.{clash, old-ids, Chosen, FinalIds}
+use Rattle.policy_set.proofs.Lookups.{no-some, some-same, lookup-key, none-times, times-none, is-some, is-none}
+use Rattle.policy_set.proofs.PutAll.{once-finds}
+use Rattle.policy_set.proofs.Sounds.{no-true}
+use Rattle.policy_set.proofs.Gathered.{itself, gathered-times}
 
 -- what the rest needs of the pairs: f gives final ids, and back the incoming id of a final one
 pub record Moves (same : ℕ → ℕ → Bool) (live incoming : Maps) (f : ℕ → ℕ) (back : ℕ → Option ℕ) : Type 0 where
@@ -133,14 +134,6 @@ module _ (same : ℕ → ℕ → Bool) (live incoming : Maps) (pairs : List Rena
   pub final-ids : FinalIds same live incoming (final pairs)
   final-ids = record {
     distinct = λ i j p q e. some-same i j (sym (origin-return i p) ∙ (ap (origin pairs) e ∙ origin-return j q));
-    new = λ i c. let p = there-is (lookup old-id i pairs) (renamed-clash i ∙ c) in final-new i (p .0) (p .1);
-    stays = λ i c. ap (new-or i) (none-is (lookup old-id i pairs) (renamed-clash i ∙ c));
+    new = λ i c. let p = is-some (lookup old-id i pairs) (renamed-clash i ∙ c) in final-new i (p .0) (p .1);
+    stays = λ i c. ap (new-or i) (is-none (lookup old-id i pairs) (renamed-clash i ∙ c));
   }
-    where
-      there-is : (o : Option Renaming) → isSome o ≡ true → (p : Renaming) × (o ≡ Some p)
-      there-is None e = no-true e
-      there-is (Some p) e = (p, refl)
-
-      none-is : (o : Option Renaming) → isSome o ≡ false → o ≡ None
-      none-is None e = refl
-      none-is (Some p) e = no-true (sym e)

@@ -16,11 +16,14 @@ use Rattle.policy_set.specs.Tables.{one-if, lookup, times, Once}
 use Rattle.policy_set.specs.Rows.{template-id, policy-id}
 use Rattle.policy_set.specs.Maps.{Maps, Parts, template-at, row-at, changed, passes, present, whole, in-force, bound, thing, named}
 use Rattle.policy_set.specs.Sound.{Sound, slotted}
-use Rattle.policy_set.specs.Merge.{parts-equal, things-equal, unequal-template, unequal-policy, template-on-policy, link-on-template, among, noted, gather, gathered}
-use Rattle.policy_set.specs.MergeLaw.{clash, itself}
+use Rattle.policy_set.specs.Merge.{parts-equal, things-equal, unequal, unequal-template, unequal-policy, template-on-policy, link-on-template, among, noted, gather, gathered}
+use Rattle.policy_set.specs.MergeLaw.{clash}
 use Rattle.policy_set.proofs.Lookups.{lookup-key, once-tail, once-head, times-push}
-use Rattle.policy_set.proofs.PutAll.{no-true}
+use Rattle.policy_set.proofs.Sounds.{no-true}
 use Rattle.policy_set.proofs.Equals.{SameTemplate, SamePolicy, same-template, is-template-equal, same-policy, linked-both}
+
+abbrev pub itself : ℕ → ℕ
+itself k = k
 
 pub or-no : (b : Bool) → (b || false) ≡ b
 or-no true = refl
@@ -37,6 +40,10 @@ and-no false = refl
 or-assoc : (a b c : Bool) → ((a || b) || c) ≡ (a || (b || c))
 or-assoc true b c = refl
 or-assoc false b c = refl
+
+unequal-none : {X : Type 0} (equal : X → X → Bool) (o : Option X) → unequal equal o None ≡ false
+unequal-none equal None = refl
+unequal-none equal (Some x) = refl
 
 refuted : (x : Bool) → (x ≡ true → ⊥) → x ≡ false
 refuted true h = absurd (h refl)
@@ -104,8 +111,8 @@ module _ (same : ℕ → ℕ → Bool) (live incoming : Maps) (sl : Sound live) 
   -- the four tests of what stands under one id
   tests : Option Template → Option PolicyRow → Option Template → Option PolicyRow → Bool
   tests ot op it ip =
-      (((false || passes (λ t. passes (λ s. not (template-equal same s t)) ot) it)
-      || passes (λ r. passes (λ q. not (parts-equal same (whole live q) (whole incoming r))) op) ip)
+      (((false || unequal (template-equal same) ot it)
+      || unequal (parts-equal same) (changed (whole live) op) (changed (whole incoming) ip))
       || passes (λ (t : Template). slotted t && isSome op) it)
       || passes (λ (r : PolicyRow). r .link && isSome ot) ip
 
@@ -158,15 +165,16 @@ module _ (same : ℕ → ℕ → Bool) (live incoming : Maps) (sl : Sound live) 
           no-true (sym e ∙ is-template-equal same s t g)
 
   first : (o : Option Template) → template-at incoming k ≡ o
-      → passes (unequal-template same live) o ≡ passes (λ t. passes (λ s. not (template-equal same s t)) (template-at live k)) o
-  first None e = refl
-  first (Some t) e = ap (λ j. passes (λ s. not (template-equal same s t)) (template-at live j)) (lookup-key template-id k (incoming .templates) t e)
+      → passes (unequal-template same live) o ≡ unequal (template-equal same) (template-at live k) o
+  first None e = sym (unequal-none (template-equal same) (template-at live k))
+  first (Some t) e = ap (λ j. unequal (template-equal same) (template-at live j) (Some t)) (lookup-key template-id k (incoming .templates) t e)
 
   second : (o : Option PolicyRow) → row-at incoming k ≡ o
-      → passes (unequal-policy same live incoming) o ≡ passes (λ r. passes (λ q. not (parts-equal same (whole live q) (whole incoming r))) (row-at live k)) o
-  second None e = refl
+      → passes (unequal-policy same live incoming) o ≡ unequal (parts-equal same) (in-force live k) (changed (whole incoming) o)
+  second None e = sym (unequal-none (parts-equal same) (in-force live k))
   second (Some r) e =
-      ap (λ j. passes (λ q. not (parts-equal same (whole live q) (whole incoming r))) (row-at live j)) (lookup-key policy-id k (incoming .policies) r e)
+      ap (λ j. unequal (parts-equal same) (in-force live j) (in-force incoming j)) (lookup-key policy-id k (incoming .policies) r e)
+      ∙ ap (λ (p : Option PolicyRow). unequal (parts-equal same) (in-force live k) (changed (whole incoming) p)) e
 
   third : (o : Option Template) → template-at incoming k ≡ o
       → passes (template-on-policy live) o ≡ passes (λ (t : Template). slotted t && isSome (row-at live k)) o

@@ -1,21 +1,26 @@
 -- A merge keeps what every policy set keeps.
 use mathlib.Core.Path.{_≡_, refl, sym, ap, subst, _∙_}
-use mathlib.Core.Bool.{Bool, true, false}
+use mathlib.Core.Bool.{Bool, true, false, not, _&&_}
 use mathlib.Core.Logic.{_⊎_, inl, inr}
 use Prim.Native.Nat.{ℕ}
+use lib.Dec.{eqb}
 use Rattle.std.specs.declared.option.Option.{Option}
 use Rattle.std.specs.declared.option.Option.the-variants.{Some, None}
+use Rattle.std.proofs.shelf.Tests.{eq-eqb, and-from, not-from-false}
 use Rattle.policy.specs.declared.template.Template.{Template}
 use Rattle.policy.specs.Binding.{value-slots}
 use Rattle.policy_set.specs.declared.rows.PolicyRow.{PolicyRow}
+use Rattle.policy_set.specs.declared.rows.Member.{Member}
 use Rattle.policy_set.specs.Rows.{template-id, policy-id, member-id}
-use Rattle.policy_set.specs.Maps.{Maps, template-at, row-at, member-at, changed}
-use Rattle.policy_set.specs.Sound.{Sound, member}
+use Rattle.policy_set.specs.Maps.{Maps, template-at, row-at, member-at, changed, passes}
+use Rattle.policy_set.specs.Sound.{Sound, member, slotted, one-thing, valued, same-member}
 use Rattle.policy_set.specs.Merge.{renamed-template, renamed-row, renamed-member, merged}
-use Rattle.policy_set.proofs.Lookups.{some-same, once-all}
+use Rattle.policy_set.proofs.Lookups.{some-same, lookup-key, once-all}
+use Rattle.policy_set.proofs.Sounds.{template-of, slotted-from, slotless-from}
+use Rattle.policy_set.proofs.Updates.{Kept}
 use Rattle.policy_set.proofs.Equals.{SameTemplate}
 use Rattle.policy_set.proofs.FinalIds.{Moves}
-use Rattle.policy_set.proofs.NamedAfter.{changed-some, changed-none, row-template, names, incoming-template, live-template}
+use Rattle.policy_set.proofs.NamedAfter.{changed-some, changed-none, names, incoming-template, live-template}
 
 member-renamed : (f : ℕ → ℕ) (o : Option PolicyRow) → changed (renamed-member f) (changed member o) ≡ changed member (changed (renamed-row f) o)
 member-renamed f None = refl
@@ -84,12 +89,12 @@ module _ (same : ℕ → ℕ → Bool) (live incoming : Maps) (f : ℕ → ℕ) 
   values-after k r t d e = elim (names same live incoming f back sl si mv k) [
     | inl h ↦
         let d′ = sym (h .rows) ∙ d in
-        let g = row-template live sl k r d′ in
+        let g = template-of live sl k r d′ in
         let u = live-slots (r .template) (g .0) (g .1) in
         sl .values k r (g .0) d′ (g .1) ∙ (u .2 ∙ ap (λ (x : Template). x .slots .bits) (some-same (u .0) t (sym (u .1) ∙ e)))
     | inr h ↦
         let y = changed-some (renamed-row f) (row-at incoming (h .0)) r (sym (h .1 .rows) ∙ d) in
-        let g = row-template incoming si (h .0) (y .0) (y .1) in
+        let g = template-of incoming si (h .0) (y .0) (y .1) in
         let m = incoming-template same live incoming f back sl si mv (y .0 .template) (g .0) (g .1) in
         let e′ : template-at (merged f live incoming) (f (y .0 .template)) ≡ Some t =
         ap (λ (u : PolicyRow). template-at (merged f live incoming) (u .template)) (y .2) ∙ e in
@@ -109,3 +114,32 @@ module _ (same : ℕ → ℕ → Bool) (live incoming : Maps) (f : ℕ → ℕ) 
     members = members-after;
     values = values-after;
   }
+
+-- what is sound passes the tests of a set's type
+pub kept-of : (m : Maps) → Sound m → Kept m
+kept-of m so = (
+  (λ k. one k (template-at m k) (row-at m k) refl refl),
+  (λ k. values k (row-at m k) refl),
+  λ k. ap (λ (o : Option Member). same-member o (row-at m k)) (so .members k) ∙ members (row-at m k),
+)
+  where
+    one : (k : ℕ) (o : Option Template) (p : Option PolicyRow) → template-at m k ≡ o → row-at m k ≡ p → one-thing m o p ≡ true
+    one k None None e f = refl
+    one k (Some t) None e f = slotted-from t (so .alone k t e f)
+    one k None (Some r) e f =
+        let l = so .link k r e f in
+        and-from (r .link) (passes slotted (template-at m (r .template))) (l .0) (ap (passes slotted) (l .1 .1) ∙ slotted-from (l .1 .0) (l .1 .2))
+    one k (Some t) (Some r) e f =
+        let s = so .static k t r e f in
+        and-from (not (r .link)) (eqb (r .template) (t .id) && not (slotted t)) (not-from-false (r .link) (s .1))
+        (and-from (eqb (r .template) (t .id)) (not (slotted t)) (eq-eqb (r .template) (t .id) (s .0 ∙ sym (lookup-key template-id k (m .templates) t e))) (slotless-from t (s .2)))
+
+    values : (k : ℕ) (p : Option PolicyRow) → row-at m k ≡ p → valued m p ≡ true
+    values k None f = refl
+    values k (Some r) f =
+        let t = template-of m so k r f in
+        ap (passes (λ (u : Template). eqb (value-slots (r .values)) (u .slots .bits))) (t .1) ∙ eq-eqb (value-slots (r .values)) (t .0 .slots .bits) (so .values k r (t .0) f (t .1))
+
+    members : (p : Option PolicyRow) → same-member (changed member p) p ≡ true
+    members None = refl
+    members (Some r) = eq-eqb (r .template) (r .template) refl

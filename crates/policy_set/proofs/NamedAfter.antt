@@ -19,8 +19,9 @@ use Rattle.policy_set.specs.Maps.Thing.{nothing, template, policy}
 use Rattle.policy_set.specs.Sound.{Sound, member}
 use Rattle.policy_set.specs.Merge.{things-equal, renamed-template, renamed-row, renamed-member, renamed-policy, renamed-thing, merged}
 use Rattle.policy_set.specs.MergeLaw.{NamesAfter, RowsAfter}
-use Rattle.policy_set.proofs.Lookups.{no-some, some-same, lookup-key, or-else}
-use Rattle.policy_set.proofs.PutAll.{no-true, found, lookup-all}
+use Rattle.policy_set.proofs.Lookups.{no-some, some-same, lookup-key, or-else, is-some}
+use Rattle.policy_set.proofs.PutAll.{found, lookup-all}
+use Rattle.policy_set.proofs.Sounds.{no-true, template-of}
 use Rattle.policy_set.proofs.Equals.{SameTemplate, SamePolicy, same-template, is-template-equal, same-policy, is-parts-equal, same-renamed, linked-both}
 use Rattle.policy_set.proofs.FinalIds.{Moves, unbound}
 
@@ -31,18 +32,6 @@ changed-some g (Some x) y e = (x, refl, some-same (g x) y e)
 pub changed-none : {X Y : Type 0} (g : X → Y) (o : Option X) → changed g o ≡ None → o ≡ None
 changed-none g None e = refl
 changed-none g (Some x) e = no-some (g x) (sym e)
-
-pub is-some : {X : Type 0} (o : Option X) → isSome o ≡ true → (x : X) × (o ≡ Some x)
-is-some None e = no-true e
-is-some (Some x) e = (x, refl)
-
--- the template of a policy is there
-pub row-template : (m : Maps) → Sound m → (k : ℕ) (r : PolicyRow) → row-at m k ≡ Some r → (t : Template) × (template-at m (r .template) ≡ Some t)
-row-template m so k r e = go (template-at m k) refl
-  where
-    go : (o : Option Template) → template-at m k ≡ o → (t : Template) × (template-at m (r .template) ≡ Some t)
-    go None p = let h = so .link k r p e .1 in (h .0, h .1)
-    go (Some t) p = (t, ap (template-at m) (so .static k t r p e .0) ∙ p)
 
 pub template-bound : (m : Maps) (k : ℕ) (t : Template) → template-at m k ≡ Some t → bound m k ≡ true
 template-bound m k t e = or-left _ _ (ap isSome e)
@@ -235,7 +224,7 @@ module _ (same : ℕ → ℕ → Bool) (live incoming : Maps) (f : ℕ → ℕ) 
   -- and so the policy
   pub incoming-whole : (i : ℕ) (r : PolicyRow) → row-at incoming i ≡ Some r → whole (merged f live incoming) (renamed-row f r) ≡ renamed-policy f (whole incoming r)
   incoming-whole i r e =
-      let h = row-template incoming si i r e in
+      let h = template-of incoming si i r e in
       let t : present (template-at (merged f live incoming) (f (r .template))) ≡ renamed-template f (present (template-at incoming (r .template))) =
       ap present (incoming-template (r .template) (h .0) (h .1)) ∙ sym (ap (λ (o : Option Template). renamed-template f (present o)) (h .1)) in
       let l = link-renamed f r in
@@ -272,7 +261,7 @@ module _ (same : ℕ → ℕ → Bool) (live incoming : Maps) (f : ℕ → ℕ) 
   pub live-whole : (k : ℕ) (r : PolicyRow) → row-at live k ≡ Some r
       → (whole (merged f live incoming) r ≡ whole live r) ⊎ SamePolicy same (whole live r) (whole (merged f live incoming) r)
   live-whole k r e =
-      let h = row-template live sl k r e in
+      let h = template-of live sl k r e in
       let g = live-template (r .template) (h .0) (h .1) in
       elim (g .2) [
         | inl z ↦
@@ -313,7 +302,7 @@ module _ (same : ℕ → ℕ → Bool) (live incoming : Maps) (f : ℕ → ℕ) 
   pub equal-renamed : (i : ℕ) → f i ≡ i → (r q : PolicyRow) → row-at incoming i ≡ Some q → SamePolicy same (whole live r) (whole incoming q) → Alike same live incoming i
       → SamePolicy same (whole live r) (renamed-policy f (whole incoming q))
   equal-renamed i fi r q e c al =
-      let h = row-template incoming si i q e in
+      let h = template-of incoming si i q e in
       let u = lookup-key policy-id i (incoming .policies) q e in
       let w = lookup-key template-id (q .template) (incoming .templates) (h .0) (h .1) in
       let t : f (h .0 .id) ≡ h .0 .id = ap f w ∙ (unrenamed i fi q e al ∙ sym w) in

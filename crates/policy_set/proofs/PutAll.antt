@@ -7,13 +7,10 @@ use lib.Dec.{eqb}
 use Rattle.std.specs.declared.option.Option.{Option}
 use Rattle.std.specs.declared.option.Option.the-variants.{Some, None}
 use Rattle.std.specs.Options.{isSome}
-use Rattle.std.proofs.shelf.Tests.{false≢true, eqb-true, eqb-false, eq-eqb}
+use Rattle.std.proofs.shelf.Tests.{eqb-true, eqb-false, eq-eqb}
 use Rattle.policy_set.specs.Tables.{lookup, put-last, put-all, Once}
 use Rattle.policy_set.specs.Maps.{changed}
 use Rattle.policy_set.proofs.Lookups.{no-some, some-same, or-else, lookup-put, once-put, once-tail, once-head}
-
-pub no-true : {R : Type 0} → false ≡ true → R
-no-true e = absurd (false≢true e)
 
 -- a row found by one key is found by another that no two rows share
 pub once-finds : {X : Type 0} (key other : X → ℕ) (k : ℕ) (xs : List X) (x : X) → Once other xs → lookup key k xs ≡ Some x → lookup other (other x) xs ≡ Some x

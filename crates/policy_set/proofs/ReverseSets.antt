@@ -9,6 +9,8 @@ use Rattle.std.specs.declared.option.Option.{Option}
 use Rattle.std.specs.declared.option.Option.the-variants.{Some, None}
 use Rattle.std.proofs.shelf.Tests.{eqb-true, eqb-false, eq-eqb, ne-eqb}
 use Rattle.std.proofs.shelf.Lists.{append-nil}
+use Rattle.std.proofs.shelf.Elements.{kept-by-append}
+use Rattle.std.specs.shelf.Lists.{kept-by}
 use Rattle.policy.specs.declared.template.Template.{Template}
 use Rattle.policy_set.specs.declared.rows.PolicyRow.{PolicyRow}
 use Rattle.policy_set.specs.declared.rows.Member.{Member}
@@ -16,61 +18,47 @@ use Rattle.policy_set.specs.Tables.{lookup, erase, put-last, put-all, Once}
 use Rattle.policy_set.specs.Rows.{template-id, member-id}
 use Rattle.policy_set.specs.Maps.{Maps, template-at, row-at, member-at, present, whole, bound}
 use Rattle.policy_set.specs.Sound.{Sound, member}
-use Rattle.policy_set.specs.Answers.{under}
+use Rattle.policy_set.specs.Answers.{is-under, reverse-set}
 use Rattle.policy_set.specs.Merge.{renamed-member, renamed-policy, merged}
-use Rattle.policy_set.specs.MergeLaw.{ReverseAfter, itself}
+use Rattle.policy_set.specs.MergeLaw.{ReverseAfter}
 use Rattle.policy_set.proofs.Lookups.{no-some, some-same, lookup-key, lookup-put, once-put, once-tail, once-head}
-use Rattle.policy_set.proofs.PutAll.{no-true}
+use Rattle.policy_set.proofs.Sounds.{no-true, template-of}
 use Rattle.policy_set.proofs.Equals.{SamePolicy}
 use Rattle.policy_set.proofs.FinalIds.{Moves}
-use Rattle.policy_set.proofs.NamedAfter.{Alike, alike, changed-some, row-template, row-bound, template-bound, equal-renamed}
+use Rattle.policy_set.proofs.NamedAfter.{Alike, alike, changed-some, row-bound, template-bound, equal-renamed}
 use Rattle.policy_set.proofs.NamedAfter.Alike.{two-templates, two-links, two-statics}
 
--- the members whose template passes a test
-abbrev under-if : (ℕ → Bool) → List Member → List ℕ
-under-if w [] = []
-under-if w (m ∷ ms) = cond (w (m .template)) (m .policy ∷ under-if w ms) (under-if w ms)
+kept-none : (ms : List Member) → kept-by (λ m. false) ms ≡ []
+kept-none [] = refl
+kept-none (m ∷ ms) = kept-none ms
 
-under-is : (k : ℕ) (ms : List Member) → under-if (λ t. eqb t k) ms ≡ under k ms
-under-is k [] = refl
-under-is k (m ∷ ms) = ap (λ (l : List ℕ). cond (eqb (m .template) k) (m .policy ∷ l) l) (under-is k ms)
-
-under-none : (ms : List Member) → under-if (λ t. false) ms ≡ []
-under-none [] = refl
-under-none (m ∷ ms) = under-none ms
-
-under-push : (k : ℕ) (ms : List Member) (m : Member) → under k (ms ++ m ∷ []) ≡ under k ms ++ cond (eqb (m .template) k) (m .policy ∷ []) []
-under-push k [] m = refl
-under-push k (x ∷ ms) m = go (under-push k ms m) (eqb (x .template) k)
+-- a member that the test keeps is erased in the list and in what is kept
+erase-kept : (w : Member → Bool) (p : ℕ) (ms : List Member) → ((y : Member) → lookup member-id p ms ≡ Some y → w y ≡ true)
+    → kept-by w (erase member-id p ms) ≡ erase member-id p (kept-by w ms)
+erase-kept w p [] h = refl
+erase-kept w p (x ∷ ms) h = go (erase-kept w p ms) (eqb (x .policy) p) (w x) refl refl h
   where
-    go : under k (ms ++ m ∷ []) ≡ under k ms ++ cond (eqb (m .template) k) (m .policy ∷ []) [] → (c : Bool)
-        → cond c (x .policy ∷ under k (ms ++ m ∷ [])) (under k (ms ++ m ∷ [])) ≡ cond c (x .policy ∷ under k ms) (under k ms) ++ cond (eqb (m .template) k) (m .policy ∷ []) []
-    go ih true = ap (λ (l : List ℕ). x .policy ∷ l) ih
-    go ih false = ih
-
-under-erase-same : (k p : ℕ) (ms : List Member) → ((y : Member) → lookup member-id p ms ≡ Some y → y .template ≡ k) → under k (erase member-id p ms) ≡ erase itself p (under k ms)
-under-erase-same k p [] h = refl
-under-erase-same k p (x ∷ ms) h = go (under-erase-same k p ms) (eqb (x .policy) p) (eqb (x .template) k) refl refl h
-  where
-    go : (((y : Member) → lookup member-id p ms ≡ Some y → y .template ≡ k) → under k (erase member-id p ms) ≡ erase itself p (under k ms))
-        → (c d : Bool) → eqb (x .policy) p ≡ c → eqb (x .template) k ≡ d
-        → ((y : Member) → cond c (Some x) (lookup member-id p ms) ≡ Some y → y .template ≡ k)
-        → under k (cond c ms (x ∷ erase member-id p ms)) ≡ erase itself p (cond d (x .policy ∷ under k ms) (under k ms))
+    go : (((y : Member) → lookup member-id p ms ≡ Some y → w y ≡ true) → kept-by w (erase member-id p ms) ≡ erase member-id p (kept-by w ms))
+        → (c d : Bool) → eqb (x .policy) p ≡ c → w x ≡ d
+        → ((y : Member) → cond c (Some x) (lookup member-id p ms) ≡ Some y → w y ≡ true)
+        → kept-by w (cond c ms (x ∷ erase member-id p ms)) ≡ erase member-id p (cond d (x ∷ kept-by w ms) (kept-by w ms))
     go ih true true e f g = rw e
-    go ih true false e f g = absurd (eqb-false (x .template) k f (g x refl))
-    go ih false true e f g = rw (e, f) (ap (λ (l : List ℕ). x .policy ∷ l) (ih g))
+    go ih true false e f g = no-true (sym f ∙ g x refl)
+    go ih false true e f g = rw (e, f) (ap (λ (l : List Member). x ∷ l) (ih g))
     go ih false false e f g = rw f (ih g)
 
-under-erase-other : (k p : ℕ) (ms : List Member) → ((y : Member) → lookup member-id p ms ≡ Some y → y .template ≡ k → ⊥) → under k (erase member-id p ms) ≡ under k ms
-under-erase-other k p [] h = refl
-under-erase-other k p (x ∷ ms) h = go (under-erase-other k p ms) (eqb (x .policy) p) (eqb (x .template) k) refl h
+-- any other is erased in the list alone
+erase-other : (w : Member → Bool) (p : ℕ) (ms : List Member) → ((y : Member) → lookup member-id p ms ≡ Some y → w y ≡ false)
+    → kept-by w (erase member-id p ms) ≡ kept-by w ms
+erase-other w p [] h = refl
+erase-other w p (x ∷ ms) h = go (erase-other w p ms) (eqb (x .policy) p) (w x) refl h
   where
-    go : (((y : Member) → lookup member-id p ms ≡ Some y → y .template ≡ k → ⊥) → under k (erase member-id p ms) ≡ under k ms) → (c d : Bool) → eqb (x .template) k ≡ d
-        → ((y : Member) → cond c (Some x) (lookup member-id p ms) ≡ Some y → y .template ≡ k → ⊥)
-        → under k (cond c ms (x ∷ erase member-id p ms)) ≡ cond d (x .policy ∷ under k ms) (under k ms)
-    go ih true true f g = absurd (g x refl (eqb-true (x .template) k f))
+    go : (((y : Member) → lookup member-id p ms ≡ Some y → w y ≡ false) → kept-by w (erase member-id p ms) ≡ kept-by w ms) → (c d : Bool) → w x ≡ d
+        → ((y : Member) → cond c (Some x) (lookup member-id p ms) ≡ Some y → w y ≡ false)
+        → kept-by w (cond c ms (x ∷ erase member-id p ms)) ≡ cond d (x ∷ kept-by w ms) (kept-by w ms)
+    go ih true true f g = no-true (sym (g x refl) ∙ f)
     go ih true false f g = refl
-    go ih false true f g = rw f (ap (λ (l : List ℕ). x .policy ∷ l) (ih g))
+    go ih false true f g = rw f (ap (λ (l : List Member). x ∷ l) (ih g))
     go ih false false f g = rw f (ih g)
 
 tail-in : (x : Member) (xs : List Member) (i : ℕ) (y : Member) → Once member-id (x ∷ xs) → lookup member-id i xs ≡ Some y → lookup member-id i (x ∷ xs) ≡ Some y
@@ -83,13 +71,13 @@ tail-in x xs i y h e = go (eqb (x .policy) i) refl
 head-in : (x : Member) (xs : List Member) → lookup member-id (x .policy) (x ∷ xs) ≡ Some x
 head-in x xs = rw (eq-eqb (x .policy) (x .policy) refl)
 
--- one reverse set after all members were put in: w says which incoming templates have it as final id
-put-under : (f : ℕ → ℕ) (back : ℕ → Option ℕ) (k : ℕ) (w : ℕ → Bool) (live xs : List Member)
-    → ((i : ℕ) (x : Member) → lookup member-id i xs ≡ Some x → eqb (f (x .template)) k ≡ w (x .template))
+-- one reverse set after all members were put in: w says which incoming members come into it
+put-under : (f : ℕ → ℕ) (back : ℕ → Option ℕ) (k : ℕ) (w : Member → Bool) (live xs : List Member)
+    → ((i : ℕ) (x : Member) → lookup member-id i xs ≡ Some x → eqb (f (x .template)) k ≡ w x)
     → ((i : ℕ) (x y : Member) → lookup member-id i xs ≡ Some x → lookup member-id (f i) live ≡ Some y → y .template ≡ f (x .template))
     → ((i : ℕ) (x : Member) → lookup member-id i xs ≡ Some x → back (f i) ≡ Some i)
     → Once member-id live → Once member-id xs
-    → under k (put-all member-id (renamed-member f) live xs) ≡ put-all itself f (under k live) (under-if w xs)
+    → kept-by (is-under k) (put-all member-id (renamed-member f) live xs) ≡ put-all member-id (renamed-member f) (kept-by (is-under k) live) (kept-by w xs)
 put-under f back k w live [] c1 c2 c3 h g = refl
 put-under f back k w live (x ∷ xs) c1 c2 c3 h g =
     put-under f back k w (put-last member-id (renamed-member f x) live) xs
@@ -97,7 +85,7 @@ put-under f back k w live (x ∷ xs) c1 c2 c3 h g =
     (λ i y z e d. kept i y z e (eqb (f (x .policy)) (f i)) refl (sym (lookup-put member-id (f i) live (renamed-member f x) h) ∙ d))
     (λ i y e. c3 i y (tail-in x xs i y g e))
     (once-put member-id live (renamed-member f x) h) (once-tail member-id x xs g)
-    ∙ step (w (x .template)) refl
+    ∙ step (w x) refl
   where
     kept : (i : ℕ) (y z : Member) → lookup member-id i xs ≡ Some y → (c : Bool) → eqb (f (x .policy)) (f i) ≡ c
         → cond c (Some (renamed-member f x)) (lookup member-id (f i) live) ≡ Some z → z .template ≡ f (y .template)
@@ -107,33 +95,33 @@ put-under f back k w live (x ∷ xs) c1 c2 c3 h g =
         no-some y (sym (once-head member-id x xs i g (eq-eqb (x .policy) i u)) ∙ e)
     kept i y z e false p q = c2 i y z (tail-in x xs i y g e) q
 
-    mine : eqb (f (x .template)) k ≡ w (x .template)
+    mine : eqb (f (x .template)) k ≡ w x
     mine = c1 (x .policy) x (head-in x xs)
 
-    there : (y : Member) → lookup member-id (f (x .policy)) live ≡ Some y → y .template ≡ f (x .template)
-    there y e = c2 (x .policy) x y (head-in x xs) e
+    there : (y : Member) → lookup member-id (f (x .policy)) live ≡ Some y → is-under k y ≡ w x
+    there y e = ap (λ t. eqb t k) (c2 (x .policy) x y (head-in x xs) e) ∙ mine
 
     put-one : (c : Bool) → eqb (f (x .template)) k ≡ c
-        → under k (put-last member-id (renamed-member f x) live) ≡ under k (erase member-id (f (x .policy)) live) ++ cond c (f (x .policy) ∷ []) []
+        → kept-by (is-under k) (put-last member-id (renamed-member f x) live)
+        ≡ kept-by (is-under k) (erase member-id (f (x .policy)) live) ++ cond c (renamed-member f x ∷ []) []
     put-one c t =
-        under-push k (erase member-id (f (x .policy)) live) (renamed-member f x)
-        ∙ ap (λ c. under k (erase member-id (f (x .policy)) live) ++ cond c (f (x .policy) ∷ []) []) t
+        kept-by-append (is-under k) (erase member-id (f (x .policy)) live) (renamed-member f x ∷ [])
+        ∙ ap (λ d. kept-by (is-under k) (erase member-id (f (x .policy)) live) ++ cond d (renamed-member f x ∷ []) []) t
 
-    step : (c : Bool) → w (x .template) ≡ c
-        → put-all itself f (under k (put-last member-id (renamed-member f x) live)) (under-if w xs) ≡ put-all itself f (under k live) (cond c (x .policy ∷ under-if w xs) (under-if w xs))
+    step : (c : Bool) → w x ≡ c
+        → put-all member-id (renamed-member f) (kept-by (is-under k) (put-last member-id (renamed-member f x) live)) (kept-by w xs)
+        ≡ put-all member-id (renamed-member f) (kept-by (is-under k) live) (cond c (x ∷ kept-by w xs) (kept-by w xs))
     step true e =
-        let t : eqb (f (x .template)) k ≡ true = mine ∙ e in
-        let a : under k (put-last member-id (renamed-member f x) live) ≡ put-last itself (f (x .policy)) (under k live) =
-        put-one true t
-        ∙ ap (λ (l : List ℕ). l ++ f (x .policy) ∷ []) (under-erase-same k (f (x .policy)) live (λ y d. there y d ∙ eqb-true (f (x .template)) k t)) in
-        ap (λ (l : List ℕ). put-all itself f l (under-if w xs)) a
+        let a : kept-by (is-under k) (put-last member-id (renamed-member f x) live) ≡ put-last member-id (renamed-member f x) (kept-by (is-under k) live) =
+        put-one true (mine ∙ e)
+        ∙ ap (λ (l : List Member). l ++ renamed-member f x ∷ []) (erase-kept (is-under k) (f (x .policy)) live (λ y d. there y d ∙ e)) in
+        ap (λ (l : List Member). put-all member-id (renamed-member f) l (kept-by w xs)) a
     step false e =
-        let t : eqb (f (x .template)) k ≡ false = mine ∙ e in
-        let a : under k (put-last member-id (renamed-member f x) live) ≡ under k live =
-        put-one false t
-        ∙ (append-nil (under k (erase member-id (f (x .policy)) live))
-        ∙ under-erase-other k (f (x .policy)) live (λ y d z. eqb-false (f (x .template)) k t (sym (there y d) ∙ z))) in
-        ap (λ (l : List ℕ). put-all itself f l (under-if w xs)) a
+        let a : kept-by (is-under k) (put-last member-id (renamed-member f x) live) ≡ kept-by (is-under k) live =
+        put-one false (mine ∙ e)
+        ∙ (append-nil (kept-by (is-under k) (erase member-id (f (x .policy)) live))
+        ∙ erase-other (is-under k) (f (x .policy)) live (λ y d. there y d ∙ e)) in
+        ap (λ (l : List Member). put-all member-id (renamed-member f) l (kept-by w xs)) a
 
 member-row : (m : Maps) → Sound m → (i : ℕ) (x : Member) → member-at m i ≡ Some x → (r : PolicyRow) × (row-at m i ≡ Some r) × (member r ≡ x)
 member-row m so i x e = changed-some member (row-at m i) x (sym (so .members i) ∙ e)
@@ -143,8 +131,8 @@ module _ (same : ℕ → ℕ → Bool) (live incoming : Maps) (f : ℕ → ℕ) 
   same-under : (i : ℕ) → f i ≡ i → (q r : PolicyRow) → row-at incoming i ≡ Some q → row-at live i ≡ Some r → SamePolicy same (whole live r) (whole incoming q) → Alike same live incoming i
       → r .template ≡ f (q .template)
   same-under i fi q r v p c al =
-      let t = row-template incoming si i q v in
-      let s = row-template live sl i r p in
+      let t = template-of incoming si i q v in
+      let s = template-of live sl i r p in
       let w : present (template-at live (r .template)) .id ≡ f (present (template-at incoming (q .template)) .id) =
       equal-renamed same live incoming f back sl si mv i fi r q v c al .template .id in
       let z : s .0 .id ≡ f (t .0 .id) = rw (t .1, s .1) at w in
@@ -177,7 +165,7 @@ module _ (same : ℕ → ℕ → Bool) (live incoming : Maps) (f : ℕ → ℕ) 
   member-template : (i : ℕ) (x : Member) → member-at incoming i ≡ Some x → (t : Template) × (template-at incoming (x .template) ≡ Some t)
   member-template i x e =
       let q = member-row incoming si i x e in
-      let t = row-template incoming si i (q .0) (q .1) in
+      let t = template-of incoming si i (q .0) (q .1) in
       (t .0, ap (λ (m : Member). template-at incoming (m .template)) (sym (q .2)) ∙ t .1)
 
   returned : (i : ℕ) (x : Member) → member-at incoming i ≡ Some x → back (f i) ≡ Some i
@@ -195,10 +183,11 @@ module _ (same : ℕ → ℕ → Bool) (live incoming : Maps) (f : ℕ → ℕ) 
   pub reverse-after : ReverseAfter live incoming (merged f live incoming) f
   reverse-after = record {
     comes = λ j t e.
-        put-under f back (f j) (λ n. eqb n j) (live .members) (incoming .members) (λ i x d. tests j t e i x d (eqb (x .template) j) refl) agrees returned (sl .members-once) (si .members-once)
-        ∙ ap (put-all itself f (under (f j) (live .members))) (under-is j (incoming .members));
+        put-under f back (f j) (is-under j) (live .members) (incoming .members) (λ i x d. tests j t e i x d (eqb (x .template) j) refl) agrees returned
+        (sl .members-once) (si .members-once);
     stays = λ k n.
         put-under f back k (λ m. false) (live .members) (incoming .members)
-        (λ i x d. ne-eqb (f (x .template)) k (λ z. let u = member-template i x d in n (x .template) (u .0) (u .1) z)) agrees returned (sl .members-once) (si .members-once)
-        ∙ ap (put-all itself f (under k (live .members))) (under-none (incoming .members));
+        (λ i x d. ne-eqb (f (x .template)) k (λ z. let u = member-template i x d in n (x .template) (u .0) (u .1) z)) agrees returned
+        (sl .members-once) (si .members-once)
+        ∙ ap (put-all member-id (renamed-member f) (reverse-set k live)) (kept-none (incoming .members));
   }

@@ -8,6 +8,7 @@ use native.Mathlib.Omega.{arith}
 use Rattle.std.specs.declared.option.Option.{Option}
 use Rattle.std.specs.declared.option.Option.the-variants.{Some, None}
 use Rattle.std.proofs.shelf.Tests.{lt-ltb, le-ltb}
+use Rattle.clauses.specs.Book.{Clause, Decides, at, same-content, same-clause}
 use Rattle.policy.specs.declared.template.Template.{Template}
 use Rattle.policy.specs.Equality.{option-equal}
 use Rattle.policy_set.specs.declared.rows.PolicyRow.{PolicyRow}
@@ -19,7 +20,7 @@ use Rattle.policy_set.specs.Merge.{parts-equal, things-equal, final, origin, r
 use Rattle.policy_set.specs.MergeLaw.{Chosen}
 use Rattle.policy_set.specs.Tally.{Account, Tally, held, grant, holds-equal, granted, granted-from, merge-tally, GrantsAfter, Agrees, Shows, AllFit, Holds, Comparing, Idless, HoldsAfter}
 use Rattle.policy_set.proofs.Lookups.{no-some, some-same}
-use Rattle.policy_set.proofs.PutAll.{no-true}
+use Rattle.policy_set.proofs.Sounds.{no-true}
 use Rattle.policy_set.proofs.Equals.{SameTemplate, SamePolicy, same-policy, is-parts-equal, both-renamed}
 use Rattle.policy_set.proofs.FinalIds.{Moves, moves, unbound}
 use Rattle.policy_set.proofs.NamedAfter.{Alike, alike, From, Kept, changed-some, names, named-policy, incoming-whole, live-whole, equal-renamed, row-bound}
@@ -253,3 +254,21 @@ module _ (same : ℕ → ℕ → Bool) (Fit : Template → Type 0) (live incomin
           go : (o : Option ℕ) → origin pairs k ≡ o → granted-from same (final pairs) tl ti k o ≡ tl k
           go None e = refl
           go (Some i) e = one i (held (ti i)) (mv .there k i e) refl
+
+-- comparing clauses of a book by their contents is symmetric and transitive
+pub clauses-comparing : {C : Type 0} (equal : C → C → Bool) (cs : List (Clause C)) → Decides equal → Comparing (same-clause equal cs)
+clauses-comparing {C} equal cs d = record {
+  symmetric = λ m n. both (at cs m) (at cs n);
+  transitive = λ l m n. all (at cs l) (at cs m) (at cs n);
+}
+  where
+    both : (a b : Option (Clause C)) → same-content equal a b ≡ true → same-content equal b a ≡ true
+    both None b h = no-true h
+    both (Some a) None h = no-true h
+    both (Some a) (Some b) h = d .whenever (b .content) (a .content) (sym (d .only (a .content) (b .content) h))
+
+    all : (a b c : Option (Clause C)) → same-content equal a b ≡ true → same-content equal b c ≡ true → same-content equal a c ≡ true
+    all None b c h g = no-true h
+    all (Some a) None c h g = no-true h
+    all (Some a) (Some b) None h g = no-true g
+    all (Some a) (Some b) (Some c) h g = d .whenever (a .content) (c .content) (d .only (a .content) (b .content) h ∙ d .only (b .content) (c .content) g)

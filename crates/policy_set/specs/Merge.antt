@@ -1,5 +1,4 @@
 -- Merging: which ids of the incoming set are renamed, and the maps of the live set afterwards.
-use mathlib.Core.Path.{_≡_}
 use mathlib.Core.List.{List, [], _∷_, _++_}
 use mathlib.Core.Bool.{Bool, true, false, cond, not, _&&_, _||_}
 use Prim.Native.Nat.{ℕ}
@@ -12,9 +11,9 @@ use Rattle.policy.specs.Equality.{option-equal, template-equal, values-equal}
 use Rattle.policy_set.specs.declared.rows.PolicyRow.{PolicyRow}
 use Rattle.policy_set.specs.declared.rows.Member.{Member}
 use Rattle.policy_set.specs.declared.rows.Renaming.{Renaming}
-use Rattle.policy_set.specs.Tables.{lookup, Once, put-all}
+use Rattle.policy_set.specs.Tables.{lookup, put-all}
 use Rattle.policy_set.specs.Rows.{template-id, policy-id, member-id}
-use Rattle.policy_set.specs.Maps.{Maps, Parts, template-at, row-at, changed, passes, whole, bound, Thing, named}
+use Rattle.policy_set.specs.Maps.{Maps, Parts, template-at, row-at, changed, in-force, Thing}
 use Rattle.policy_set.specs.Maps.Thing.{nothing, template, policy}
 use Rattle.policy_set.specs.Sound.{slotted}
 
@@ -36,13 +35,19 @@ things-equal same (policy p) nothing = false
 things-equal same (policy p) (template t) = false
 things-equal same (policy p) (policy q) = parts-equal same p q
 
+-- Both are there, and they are unequal.
+abbrev pub unequal : {X : Type 0} → (X → X → Bool) → Option X → Option X → Bool
+unequal equal None b = false
+unequal equal (Some a) None = false
+unequal equal (Some a) (Some b) = not (equal a b)
+
 -- An unequal template is live under the template's id.
 abbrev pub unequal-template : (ℕ → ℕ → Bool) → Maps → Template → Bool
-unequal-template same live t = passes (λ s. not (template-equal same s t)) (template-at live (t .id))
+unequal-template same live t = unequal (template-equal same) (template-at live (t .id)) (Some t)
 
--- An unequal policy is live under the policy's id.
+-- Unequal policies are in force under the policy's id.
 abbrev pub unequal-policy : (ℕ → ℕ → Bool) → Maps → Maps → PolicyRow → Bool
-unequal-policy same live incoming r = passes (λ q. not (parts-equal same (whole live q) (whole incoming r))) (row-at live (r .id))
+unequal-policy same live incoming r = unequal (parts-equal same) (in-force live (r .id)) (in-force incoming (r .id))
 
 -- The template has slots, and a policy is live under its id.
 abbrev pub template-on-policy : Maps → Template → Bool

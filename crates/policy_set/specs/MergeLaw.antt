@@ -9,10 +9,11 @@ use Rattle.policy.specs.declared.template.Template.{Template}
 use Rattle.policy_set.specs.declared.rows.PolicyRow.{PolicyRow}
 use Rattle.policy_set.specs.declared.rows.Renaming.{Renaming}
 use Rattle.policy_set.specs.Tables.{lookup, Once, put-all}
+use Rattle.policy_set.specs.Rows.{member-id}
 use Rattle.policy_set.specs.Maps.{Maps, template-at, row-at, bound, named}
 use Rattle.policy_set.specs.Sound.{Sound}
-use Rattle.policy_set.specs.Answers.{under}
-use Rattle.policy_set.specs.Merge.{things-equal, among, gathered, old-id, new-id, final, renamed-template, renamed-row, renamed-thing}
+use Rattle.policy_set.specs.Answers.{reverse-set}
+use Rattle.policy_set.specs.Merge.{things-equal, among, gathered, old-id, new-id, final, renamed-template, renamed-row, renamed-member, renamed-thing}
 
 -- Both sets bind the id, and it names unequal things in them.
 abbrev pub clash : (ℕ → ℕ → Bool) → Maps → Maps → ℕ → Bool
@@ -58,16 +59,13 @@ pub record RowsAfter (live incoming after : Maps) (f : ℕ → ℕ) : Type 0 whe
   pub policies : (k : ℕ) (r : PolicyRow) → row-at after k ≡ Some r
       → (row-at live k ≡ Some r) ⊎ ((i : ℕ) × (q : PolicyRow) × (row-at incoming i ≡ Some q) × (r ≡ renamed-row f q))
 
-abbrev pub itself : ℕ → ℕ
-itself k = k
-
 -- The reverse sets afterwards.
 pub record ReverseAfter (live incoming after : Maps) (f : ℕ → ℕ) : Type 0 where
   -- the reverse set of an incoming template has gone in, in its order, among that of the template's final id
   pub comes : (j : ℕ) (t : Template) → template-at incoming j ≡ Some t
-      → under (f j) (after .members) ≡ put-all itself f (under (f j) (live .members)) (under j (incoming .members))
+      → reverse-set (f j) after ≡ put-all member-id (renamed-member f) (reverse-set (f j) live) (reverse-set j incoming)
   -- the others stay
-  pub stays : (k : ℕ) → ((j : ℕ) (t : Template) → template-at incoming j ≡ Some t → f j ≡ k → ⊥) → under k (after .members) ≡ under k (live .members)
+  pub stays : (k : ℕ) → ((j : ℕ) (t : Template) → template-at incoming j ≡ Some t → f j ≡ k → ⊥) → reverse-set k after ≡ reverse-set k live
 
 -- What a merge has done: the pairs say which ids were renamed, and `after` is the live set afterwards.
 pub record Merges (same : ℕ → ℕ → Bool) (live incoming after : Maps) (pairs : List Renaming) : Type 0 where
