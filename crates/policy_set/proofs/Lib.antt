@@ -15,3 +15,4 @@ mod MergedSound
 mod ReverseSets
 mod MergeLaws
 pub mod Tallies
+mod Candidates

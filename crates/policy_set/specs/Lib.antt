@@ -9,3 +9,4 @@ pub mod Meaning
 pub mod Merge
 pub mod MergeLaw
 pub mod Tally
+pub mod Choice

@@ -1,0 +1,3 @@
+// Merging one set into another.
+pub(crate) mod attempt;
+pub(crate) mod candidate;
