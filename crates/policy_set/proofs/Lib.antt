@@ -16,3 +16,6 @@ mod ReverseSets
 mod MergeLaws
 pub mod Tallies
 mod Candidates
+mod NewNames
+mod NameSearch
+mod NewTexts

@@ -1,19 +1,21 @@
 -- Choosing new ids: `policy` and a decimal number, from a counter that is raised past every try.
+use mathlib.Core.Path.{_≡_}
 use mathlib.Core.List.{List, [], _∷_, _++_}
 use mathlib.Core.Bool.{Bool, cond, not, _||_}
-use Prim.Native.Nat.{ℕ, zero, suc, _+_, _-_}
+use Prim.Native.Nat.{ℕ, zero, suc, _+_, _-_, _<_}
 use lib.Chars.{codes}
 use lib.Dec.{ltb}
-use lib.ListN.{length}
+use lib.ListN.{length, getD}
 use Rattle.std.specs.declared.option.Option.{Option}
 use Rattle.std.specs.declared.option.Option.the-variants.{Some, None}
 use Rattle.std.specs.Options.{isSome}
 use Rattle.std.specs.Written.{decimal}
-use Rattle.names.specs.Names.{number-of}
+use Rattle.names.specs.Names.{Limits, number-of, name-after}
 use Rattle.policy_set.specs.declared.rows.Renaming.{Renaming}
 use Rattle.policy_set.specs.declared.merge.attempt.Try.{Try}
-use Rattle.policy_set.specs.Tables.{one-if}
+use Rattle.policy_set.specs.Tables.{one-if, lookup}
 use Rattle.policy_set.specs.Maps.{Maps, bound}
+use Rattle.policy_set.specs.Merge.{new-id}
 
 -- The text of a counter: `policy` and its decimal digits.
 unfoldable pub candidate : ℕ → List ℕ
@@ -71,6 +73,15 @@ new-texts texts taken limit fresh c (i ∷ is) =
       | None ↦ []
       | Some t ↦ new-text fresh t ++ new-texts texts taken limit (t .fresh) (t .counter) is
     ]
+
+-- The texts of a book after the texts of counters were named in turn.
+abbrev pub enter-all : Limits → List (List ℕ) → List ℕ → List (List ℕ)
+enter-all limits texts [] = texts
+enter-all limits texts (c ∷ cs) = enter-all limits (name-after limits texts (candidate c)) cs
+
+-- Each new id is, in the book afterwards, the number of `policy` and a decimal number.
+abbrev pub Reads-back : List (List ℕ) → List Renaming → Type 0
+Reads-back texts pairs = (k : ℕ) (p : Renaming) → lookup new-id k pairs ≡ Some p → (c : ℕ) × (k < length texts) × (getD texts k [] ≡ candidate c)
 
 -- Either set binds the id.
 abbrev pub taken-by : Maps → Maps → ℕ → Bool
