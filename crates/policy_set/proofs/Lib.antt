@@ -19,3 +19,4 @@ mod Candidates
 mod NewNames
 mod NameSearch
 mod NewTexts
+mod RowCounts

@@ -12,6 +12,7 @@ use Rattle.policy_set.proofs.FinalIds.{moves, final-ids}
 use Rattle.policy_set.proofs.NamedAfter.{names-after, rows-after}
 use Rattle.policy_set.proofs.MergedSound.{sound-after}
 use Rattle.policy_set.proofs.ReverseSets.{reverse-after}
+use Rattle.policy_set.proofs.RowCounts.{rows-counted}
 
 pub merges : (same : ℕ → ℕ → Bool) (live incoming : Maps) (pairs : List Renaming) → Sound live → Sound incoming → Chosen same live incoming pairs
     → Merges same live incoming (merged (final pairs) live incoming) pairs
@@ -24,5 +25,6 @@ merges same live incoming pairs sl si ch =
       names = names-after same live incoming (final pairs) (origin pairs) sl si mv;
       rows = rows-after same live incoming (final pairs) (origin pairs) sl si mv;
       reverse = reverse-after same live incoming (final pairs) (origin pairs) sl si mv;
+      counts = rows-counted same live incoming pairs sl si ch;
       sound = sound-after same live incoming (final pairs) (origin pairs) sl si mv;
     }

@@ -1,7 +1,7 @@
 -- Merging: which ids of the incoming set are renamed, and the maps of the live set afterwards.
 use mathlib.Core.List.{List, [], _∷_, _++_}
 use mathlib.Core.Bool.{Bool, true, false, cond, not, _&&_, _||_}
-use Prim.Native.Nat.{ℕ}
+use Prim.Native.Nat.{ℕ, _+_}
 use lib.Dec.{eqb}
 use Rattle.std.specs.declared.option.Option.{Option}
 use Rattle.std.specs.declared.option.Option.the-variants.{Some, None}
@@ -11,7 +11,7 @@ use Rattle.policy.specs.Equality.{option-equal, template-equal, values-equal}
 use Rattle.policy_set.specs.declared.rows.PolicyRow.{PolicyRow}
 use Rattle.policy_set.specs.declared.rows.Member.{Member}
 use Rattle.policy_set.specs.declared.rows.Renaming.{Renaming}
-use Rattle.policy_set.specs.Tables.{lookup, put-all}
+use Rattle.policy_set.specs.Tables.{one-if, lookup, put-all}
 use Rattle.policy_set.specs.Rows.{template-id, policy-id, member-id}
 use Rattle.policy_set.specs.Maps.{Maps, Parts, template-at, row-at, changed, in-force, Thing}
 use Rattle.policy_set.specs.Maps.Thing.{nothing, template, policy}
@@ -144,3 +144,8 @@ merged f live incoming = record {
   policies = put-all policy-id (renamed-row f) (live .policies) (incoming .policies);
   members = put-all member-id (renamed-member f) (live .members) (incoming .members);
 }
+
+-- How many incoming rows are rows more: their id is among those to rename, or is not live.
+abbrev pub rows-more : {X : Type 0} → (X → ℕ) → List ℕ → List X → List X → ℕ
+rows-more key ids live [] = 0
+rows-more key ids live (x ∷ xs) = one-if (among (key x) ids || not (isSome (lookup key (key x) live))) + rows-more key ids live xs

@@ -3,17 +3,18 @@ use mathlib.Core.Path.{_≡_}
 use mathlib.Core.List.{List, [], _∷_}
 use mathlib.Core.Bool.{Bool, true, false, not, _&&_}
 use mathlib.Core.Logic.{_⊎_}
-use Prim.Native.Nat.{ℕ}
+use Prim.Native.Nat.{ℕ, _+_}
+use lib.ListN.{length}
 use Rattle.std.specs.declared.option.Option.the-variants.{Some}
 use Rattle.policy.specs.declared.template.Template.{Template}
 use Rattle.policy_set.specs.declared.rows.PolicyRow.{PolicyRow}
 use Rattle.policy_set.specs.declared.rows.Renaming.{Renaming}
 use Rattle.policy_set.specs.Tables.{lookup, Once, put-all}
-use Rattle.policy_set.specs.Rows.{member-id}
+use Rattle.policy_set.specs.Rows.{template-id, policy-id, member-id}
 use Rattle.policy_set.specs.Maps.{Maps, template-at, row-at, bound, named}
 use Rattle.policy_set.specs.Sound.{Sound}
 use Rattle.policy_set.specs.Answers.{reverse-set}
-use Rattle.policy_set.specs.Merge.{things-equal, among, gathered, old-id, new-id, final, renamed-template, renamed-row, renamed-member, renamed-thing}
+use Rattle.policy_set.specs.Merge.{things-equal, among, gathered, old-id, new-id, final, renamed-template, renamed-row, renamed-member, renamed-thing, rows-more}
 
 -- Both sets bind the id, and it names unequal things in them.
 abbrev pub clash : (ℕ → ℕ → Bool) → Maps → Maps → ℕ → Bool
@@ -67,6 +68,11 @@ pub record ReverseAfter (live incoming after : Maps) (f : ℕ → ℕ) : Type 0 
   -- the others stay
   pub stays : (k : ℕ) → ((j : ℕ) (t : Template) → template-at incoming j ≡ Some t → f j ≡ k → ⊥) → reverse-set k after ≡ reverse-set k live
 
+-- How many templates and policies there are afterwards, whatever the new ids: those of one id count once.
+pub record RowsCounted (same : ℕ → ℕ → Bool) (live incoming after : Maps) : Type 0 where
+  pub templates : length (after .templates) ≡ length (live .templates) + rows-more template-id (gathered same live incoming) (live .templates) (incoming .templates)
+  pub policies : length (after .policies) ≡ length (live .policies) + rows-more policy-id (gathered same live incoming) (live .policies) (incoming .policies)
+
 -- What a merge has done: the pairs say which ids were renamed, and `after` is the live set afterwards.
 pub record Merges (same : ℕ → ℕ → Bool) (live incoming after : Maps) (pairs : List Renaming) : Type 0 where
   pub gathers : Gathers-clashes same live incoming
@@ -75,4 +81,5 @@ pub record Merges (same : ℕ → ℕ → Bool) (live incoming after : Maps) (pa
   pub names : NamesAfter same live incoming after (final pairs)
   pub rows : RowsAfter live incoming after (final pairs)
   pub reverse : ReverseAfter live incoming after (final pairs)
+  pub counts : RowsCounted same live incoming after
   pub sound : Sound after
