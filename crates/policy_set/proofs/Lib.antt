@@ -20,3 +20,4 @@ mod NewNames
 mod NameSearch
 mod NewTexts
 mod RowCounts
+mod Turns

@@ -145,7 +145,11 @@ merged f live incoming = record {
   members = put-all member-id (renamed-member f) (live .members) (incoming .members);
 }
 
--- How many incoming rows are rows more: their id is among those to rename, or is not live.
+-- A row with the key is a row more: its id is among those to rename, or is not live.
+abbrev pub is-more : {X : Type 0} → (X → ℕ) → List ℕ → List X → ℕ → Bool
+is-more key ids live k = among k ids || not (isSome (lookup key k live))
+
+-- How many incoming rows are rows more.
 abbrev pub rows-more : {X : Type 0} → (X → ℕ) → List ℕ → List X → List X → ℕ
 rows-more key ids live [] = 0
-rows-more key ids live (x ∷ xs) = one-if (among (key x) ids || not (isSome (lookup key (key x) live))) + rows-more key ids live xs
+rows-more key ids live (x ∷ xs) = one-if (is-more key ids live (key x)) + rows-more key ids live xs

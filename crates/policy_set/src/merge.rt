@@ -1,3 +1,4 @@
 // Merging one set into another.
 pub(crate) mod attempt;
 pub(crate) mod candidate;
+pub(crate) mod gather;
