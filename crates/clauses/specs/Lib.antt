@@ -1,2 +1,13 @@
 pub mod Book
 pub mod Tree
+pub mod Kept
+pub mod Slots
+pub mod Sealed
+pub mod Checks
+pub mod Entering
+pub mod SealedBooks
+pub mod Nodes
+pub mod Shape
+pub mod NameChecks
+pub mod TreeEntering
+pub mod TreeBooks

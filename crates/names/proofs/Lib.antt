@@ -3,3 +3,4 @@ pub mod Pieces
 pub mod Names
 pub mod Naming
 pub mod TypeNames
+pub mod Actions

@@ -6,6 +6,7 @@ use mathlib.Core.Logic.{_⊎_}
 use Prim.Native.Nat.{ℕ}
 use lib.Chars.{codes}
 use lib.Dec.{eqb, leb}
+use Rattle.std.specs.shelf.Text.{sameBytes}
 
 -- An ASCII letter or an underscore.
 abbrev pub letter : ℕ → Bool
@@ -58,3 +59,12 @@ LastPart text part =
 -- The last part is `Action`.
 abbrev pub IsAction : List ℕ → Type 0
 IsAction text = LastPart text (codes "Action")
+
+-- A text ends with a part.
+abbrev pub ends-with : List ℕ → List ℕ → Bool
+ends-with part [] = sameBytes [] part
+ends-with part (b ∷ bs) = sameBytes (b ∷ bs) part || ends-with part bs
+
+-- The same as a test: the text is `Action` or ends with `::Action`.
+abbrev pub is-action : List ℕ → Bool
+is-action text = sameBytes text (codes "Action") || ends-with (codes "::Action") text

@@ -86,3 +86,7 @@ none-left false false = refl
 none-left true false = refl
 none-left false true = refl
 none-left true true = refl
+
+-- Two bits are the set of their slots.
+pub bits-back : (n : ℕ) → n < 4 → n ≡ set-of (bit 1 n) (bit 2 n) .bits
+bits-back n h = by-four (λ n. n ≡ set-of (bit 1 n) (bit 2 n) .bits) refl refl refl refl n h

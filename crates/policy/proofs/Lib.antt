@@ -13,3 +13,5 @@ pub mod Trees
 pub mod Propers
 pub mod Worth
 pub mod Worded
+pub mod Sets
+pub mod Mentioned

@@ -71,5 +71,5 @@ in-only (l ∷ ls) e a h =
           (by-parent (inl (refl, refl)) (weaker l ls (l .parent) a (in-only ls (l .parent) a (q .1))))
     ]
 
-pub in-decided : (h : List Edge) → In-decided h
+pub in-decided : In-decided
 in-decided h e a = (in-only h e a, in-whenever h e a)

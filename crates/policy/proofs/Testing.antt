@@ -6,6 +6,8 @@ use Prim.Native.Nat.{ℕ}
 use lib.Dec.{ltb}
 use Rattle.std.specs.declared.result.Result.{Result}
 use Rattle.std.specs.declared.result.Result.the-variants.{Ok, Err}
+use Rattle.std.specs.Results.{ErrBy}
+use Rattle.std.proofs.shelf.Results.{err-from-errBy}
 use Rattle.refusals.specs.declared.refusal.Refusal.{Refusal}
 use Rattle.refusals.specs.declared.refusal.Refusal.the-variants.{UnknownName}
 use Rattle.policy.specs.declared.template.Template.{Template}
@@ -50,3 +52,7 @@ template-tested count t =
     ap (λ (r : Result (Unit {0}) Refusal). and-then (names-known count (t .id ∷ [])) r)
     (names-three count (scope-names (t .principal)) (entities-names (actions-of (t .action))) (scope-names (t .resource)))
     ∙ sym (names-append count (t .id ∷ []) (scope-names (t .principal) ++ (entities-names (actions-of (t .action)) ++ scope-names (t .resource))))
+
+-- The exit of a `?`.
+pub broke : {X : Type 0} {e : Refusal} (r : Result X Refusal) → ErrBy r (λ y. y ≡ e) → r ≡ Err e
+broke r h = let p = err-from-errBy r h in p .1 ∙ ap Err (p .2)

@@ -28,5 +28,5 @@ is-in [] e a = entity-equal e a
 is-in (l ∷ ls) e a = is-in ls e a || (is-in ls e (l .child) && is-in ls (l .parent) a)
 
 -- The test says yes exactly when the entity is in the other.
-abbrev pub In-decided : List Edge → Type 0
-In-decided h = (e a : EntityUID) → Decides (is-in h e a) (In h e a)
+abbrev pub In-decided : Type 0
+In-decided = (h : List Edge) (e a : EntityUID) → Decides (is-in h e a) (In h e a)

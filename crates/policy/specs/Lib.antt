@@ -12,5 +12,7 @@ pub mod Meaning
 pub mod Filling
 pub mod Condition
 pub mod Nodes
+pub mod Mentions
 pub mod Answer
 pub mod Evaluation
+pub mod Calls

@@ -10,17 +10,28 @@ use Rattle.refusals.specs.declared.slots.SlotId.the-variants.{Principal, Resour
 use Rattle.refusals.specs.declared.slots.SlotSet.{SlotSet}
 use Rattle.policy.specs.declared.values.SlotEnv.{SlotEnv}
 
+-- Whether the bit of a slot is set.
+abbrev pub has-bit : SlotId → ℕ → Bool
+has-bit slot bits = not (eqb (bitAnd bits (slot-bit slot)) 0)
+
 -- Whether a slot is in a set.
 abbrev pub has : SlotId → SlotSet → Bool
-has slot s = not (eqb (bitAnd (s .bits) (slot-bit slot)) 0)
+has slot s = has-bit slot (s .bits)
 
--- The set of the slots that a test says yes of.
+abbrev pub slot-equal : SlotId → SlotId → Bool
+slot-equal Principal Principal = true
+slot-equal Principal Resource = false
+slot-equal Resource Principal = false
+slot-equal Resource Resource = true
+
+-- The set with principal, or not, and resource, or not.
 abbrev pub set-of : Bool → Bool → SlotSet
 set-of false false = record { bits = 0; «two_bits» = lit< tt }
 set-of true false = record { bits = 1; «two_bits» = lit< tt }
 set-of false true = record { bits = 2; «two_bits» = lit< tt }
 set-of true true = record { bits = 3; «two_bits» = lit< tt }
 
+-- The set of the slots that a test says yes of.
 abbrev pub slots-where : (SlotId → Bool) → SlotSet
 slots-where test = set-of (test Principal) (test Resource)
 

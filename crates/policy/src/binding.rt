@@ -28,7 +28,7 @@ fn bindable(slots: SlotSet, values: SlotEnv) -> Result<(), Refusal>
 }
 
 // The link of a template with values for exactly its slots.
-fn linked(template: &Template, link: NameNumber, values: SlotEnv) -> Result<Policy, Refusal>
+pub fn linked(template: &Template, link: NameNumber, values: SlotEnv) -> Result<Policy, Refusal>
     ensures { λ r. ⌜ parts-of r ≡ and-then (bindable-of (now (template .entry) .slots) values) (Accepted (record { template = now (template .entry); link = Given link; values = values })) ⌝ }
 {
     bindable(template.slots, values)?;

@@ -2,19 +2,25 @@ ghost use mathlib.Core.Path.{_≡_};
 ghost use mathlib.Core.List.{List, [], _∷_, _++_, map};
 ghost use Prim.Native.Nat.{ℕ, _+_, _≤_, _<_};
 ghost use lib.ListN.{length};
-ghost use Rattle.clauses.specs.Tree.{written};
+ghost use Rattle.names.specs.Book.{texts};
+ghost use Rattle.clauses.specs.Tree.{written, One};
+ghost use Rattle.policy.specs.Calls.{condition-answer};
+ghost use Rattle.policy.specs.Evaluation.{Means};
+ghost use Rattle.policy.specs.Hierarchy.{In-decided};
 ghost use Rattle.policy.specs.Answer.{fitted, buffer-after};
-ghost use Rattle.policy.specs.Condition.{reference-node, scope-tree, action-tree, clause-node as node-of-clause, condition-tree};
+ghost use Rattle.policy.specs.Condition.{arity, reference-node, scope-tree, action-tree, clause-node as node-of-clause, condition-tree};
 ghost use Rattle.policy.specs.Nodes.{nodes-of, Wrote};
 ghost use Rattle.policy.specs.declared.node.ConditionNode.the-variants.{Entity as Named};
 use crate::action::ActionConstraint;
 use crate::constraint::EntityReference;
 use crate::constraint::PrincipalOrResourceConstraint;
+use crate::known::known_template;
 use crate::node::ConditionNode;
 use crate::nodes::NodeList;
 use crate::template::Template;
 use clauses::book::ClauseBook;
 use names::entity::EntityUID;
+use names::kept::NameBook;
 use refusals::refusal::Refusal;
 use refusals::slots::SlotId;
 
@@ -141,4 +147,24 @@ fn copy_out(nodes: &[ConditionNode], buffer: &mut [ConditionNode]) -> Result<usi
     }
     buffer[0..needed].copy_from_slice(nodes);
     Ok(needed)
+}
+
+impl Template {
+    // The condition as postfix nodes at the front of the buffer, and how many they are.
+    pub fn condition<B: ClauseBook>(
+        &self,
+        names: &NameBook,
+        clauses: &B,
+        buffer: &mut [ConditionNode],
+    ) -> Result<usize, Refusal>
+        ensures answer { λ r. ⌜ r ≡ condition-answer (length (texts (now (names .entry)))) (B·ClauseBook .listed (now (clauses .entry))) (now (self .entry)) (length (now (buffer .entry))) ⌝ }
+        ensures buffer { λ r. ⌜ now (buffer .exit) ≡ buffer-after (written (condition-tree (B·ClauseBook .listed (now (clauses .entry))) (now (self .entry)))) (now (buffer .entry)) r ⌝ }
+        ensures one_tree { λ _. ⌜ One arity (written (condition-tree (B·ClauseBook .listed (now (clauses .entry))) (now (self .entry)))) ⌝ }
+        ensures means { λ _. ⌜ Means (B·ClauseBook .listed (now (clauses .entry))) (now (self .entry)) ⌝ }
+        ensures hierarchy { λ _. ⌜ In-decided ⌝ }
+    {
+        known_template(self, names.count(), clauses)?;
+        let nodes = written_condition(self, clauses);
+        copy_out(nodes.as_slice(), buffer)
+    }
 }

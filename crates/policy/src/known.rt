@@ -15,7 +15,7 @@ use refusals::NameNumber;
 use refusals::refusal::Refusal;
 
 // A name is known when it is below the count of the name book.
-fn known_name(count: usize, name: NameNumber) -> Result<(), Refusal>
+pub fn known_name(count: usize, name: NameNumber) -> Result<(), Refusal>
     ensures { λ r. ⌜ r ≡ names-known count (name ∷ []) ⌝ }
 {
     if (name as usize) < count {
@@ -76,7 +76,7 @@ fn known_action(count: usize, a: &ActionConstraint) -> Result<(), Refusal>
 }
 
 // The names of a template in record order.
-fn known_names(count: usize, t: &Template) -> Result<(), Refusal>
+pub fn known_names(count: usize, t: &Template) -> Result<(), Refusal>
     ensures { λ r. ⌜ r ≡ names-known count (template-names (now (t .entry))) ⌝ }
 {
     known_name(count, t.id)?;
@@ -94,7 +94,7 @@ fn known_value(count: usize, value: Option<EntityUID>) -> Result<(), Refusal>
     }
 }
 
-fn known_values(count: usize, values: SlotEnv) -> Result<(), Refusal>
+pub fn known_values(count: usize, values: SlotEnv) -> Result<(), Refusal>
     ensures { λ r. ⌜ r ≡ names-known count (values-names values) ⌝ }
 {
     known_value(count, values.principal)?;
@@ -111,7 +111,7 @@ fn known_link(count: usize, link: Option<NameNumber>) -> Result<(), Refusal>
 }
 
 // The names of a policy: its template's, its link id, its values'.
-fn known_policy_names(count: usize, p: &Policy) -> Result<(), Refusal>
+pub fn known_policy_names(count: usize, p: &Policy) -> Result<(), Refusal>
     ensures { λ r. ⌜ r ≡ names-known count (policy-names (now (p .entry))) ⌝ }
 {
     known_names(count, &p.template)?;
@@ -119,7 +119,7 @@ fn known_policy_names(count: usize, p: &Policy) -> Result<(), Refusal>
     known_values(count, p.values)
 }
 
-fn known_clause<B: ClauseBook>(clauses: &B, clause: Option<u16>) -> Result<(), Refusal>
+pub fn known_clause<B: ClauseBook>(clauses: &B, clause: Option<u16>) -> Result<(), Refusal>
     ensures { λ r. ⌜ r ≡ clause-known (B·ClauseBook .listed (now (clauses .entry))) clause ⌝ }
 {
     match clause {

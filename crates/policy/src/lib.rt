@@ -2,6 +2,7 @@ pub mod action;
 pub mod binding;
 pub mod bound;
 pub mod condition;
+pub mod condition_slots;
 pub mod constraint;
 pub mod equality;
 pub mod fill;

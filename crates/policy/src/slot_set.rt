@@ -1,8 +1,8 @@
 ghost use mathlib.Core.Path.{_≡_};
-ghost use mathlib.Core.Bool.{not};
+ghost use mathlib.Core.Bool.{false};
 ghost use Prim.Native.Nat.{ℕ};
 ghost use lib.Dec.{eqb};
-ghost use Rattle.policy.specs.Slots.{has as has-slot, union as either-has, minus as first-only, slots-where, bound};
+ghost use Rattle.policy.specs.Slots.{has as has-slot, union as either-has, minus as first-only, slots-where, slot-equal, bound};
 ghost use Rattle.policy.specs.Binding.{value-bit};
 ghost use Rattle.refusals.specs.Refusals.{slot-bit};
 use crate::values::SlotEnv;
@@ -11,6 +11,20 @@ use refusals::slots::SlotId;
 use refusals::slots::SlotSet;
 
 const BOTH: u8 = 3;
+
+// No slot.
+pub fn empty() -> SlotSet
+    ensures { λ r. ⌜ r ≡ slots-where (λ _. false) ⌝ }
+{
+    SlotSet { bits: 0 }
+}
+
+// One slot.
+pub fn single(slot: SlotId) -> SlotSet
+    ensures { λ r. ⌜ r ≡ slots-where (λ other. slot-equal other slot) ⌝ }
+{
+    SlotSet { bits: slot.bit() }
+}
 
 // The slots of either set.
 pub fn union(a: SlotSet, b: SlotSet) -> SlotSet

@@ -1,5 +1,5 @@
 -- What a search for a key finds, and what removing and putting at the place found leaves.
-use mathlib.Core.Path.{_≡_, refl, sym, ap, _∙_}
+use mathlib.Core.Path.{_≡_, refl, sym, ap, subst, _∙_}
 use mathlib.Core.Logic.{⊎-elim}
 use mathlib.Core.List.{List, [], _∷_, _++_}
 use mathlib.Core.Bool.{Bool, true, false, cond}
@@ -10,10 +10,11 @@ use lib.ListN.{length, take, drop, getD}
 use lib.Dec.{eqb}
 use Rattle.std.specs.declared.option.Option.{Option}
 use Rattle.std.specs.declared.option.Option.the-variants.{Some, None}
-use Rattle.std.proofs.shelf.Tests.{eq-eqb, ne-eqb, cond-true, cond-false, cases-bool}
+use Rattle.std.specs.Options.{isSome}
+use Rattle.std.proofs.shelf.Tests.{eq-eqb, ne-eqb, eqb-true, eqb-false, cond-true, cond-false, cases-bool, false≢true}
 use Rattle.std.proofs.shelf.Lists.{at-drop-more, drop-more, length-take-le, length-push, take-at}
-use Rattle.policy_set.specs.Tables.{position-from, position, without, erase, lookup, put-last, row-last, moved-last}
-use Rattle.policy_set.proofs.Lookups.{no-some, lookup-key}
+use Rattle.policy_set.specs.Tables.{position-from, position, without, erase, lookup, put-last, row-last, moved-last, Once}
+use Rattle.policy_set.proofs.Lookups.{no-some, is-some, lookup-key, once-tail, once-head, once-erase, lookup-erase-same, lookup-erase-other}
 
 -- one turn of the search: the row at i has the key, or it has not
 pub found-here : {X : Type 0} (key : X → ℕ) (k i : ℕ) (xs : List X) (x : X) → i < length xs → x ≡ getD xs i x
@@ -159,3 +160,25 @@ moved-front {X} key k xs zs post used i l f e =
       e ∙ (ap (λ m. without i (take m xs) ++ take 1 (drop i (take m xs))) (sub-zero used) ∙ moved-found key k (take used xs) i f) in
     let n : length zs ≡ used = ap length m ∙ (length-moved key k (take used xs) ∙ length-take-le used xs l) in
     take-at zs post used n ∙ m
+
+-- tables with the same keys are equally long
+pub length-by-keys : {X Y : Type 0} (f : X → ℕ) (g : Y → ℕ) (xs : List X) (ys : List Y) → Once f xs → Once g ys
+  → ((k : ℕ) → isSome (lookup f k xs) ≡ isSome (lookup g k ys)) → length xs ≡ length ys
+length-by-keys f g [] [] a b same = refl
+length-by-keys f g [] (y ∷ ys) a b same =
+    let e : isSome (lookup g (g y) (y ∷ ys)) ≡ true = ap isSome (cond-true _ (Some y) (lookup g (g y) ys) (eq-eqb (g y) (g y) refl)) in
+    absurd (false≢true (same (g y) ∙ e))
+length-by-keys {X} {Y} f g (x ∷ xs) ys a b same =
+    let found = is-some (lookup g (f x) ys) (sym (same (f x)) ∙ ap isSome (cond-true _ (Some x) (lookup f (f x) xs) (eq-eqb (f x) (f x) refl))) in
+    omega (arith, length-by-keys f g xs (erase g (f x) ys) (once-tail f x xs a) (once-erase g (f x) ys b) rest, length-erase g (f x) ys (found .0) (found .1))
+  where
+    rest : (k : ℕ) → isSome (lookup f k xs) ≡ isSome (lookup g k (erase g (f x) ys))
+    rest k = go (eqb (f x) k) refl
+      where
+        go : (c : Bool) → eqb (f x) k ≡ c → isSome (lookup f k xs) ≡ isSome (lookup g k (erase g (f x) ys))
+        go true e =
+          ap isSome (once-head f x xs k a e)
+          ∙ sym (ap isSome (subst (λ j. lookup g j (erase g (f x) ys) ≡ None) (eqb-true _ _ e) (lookup-erase-same g (f x) ys b)))
+        go false e =
+          ap isSome (sym (cond-false _ (Some x) (lookup f k xs) e))
+          ∙ (same k ∙ ap isSome (sym (lookup-erase-other g (f x) k ys (eqb-false _ _ e))))

@@ -10,21 +10,26 @@ use Rattle.std.specs.declared.result.Result.the-variants.{Ok}
 use Rattle.std.specs.Options.{isSome}
 use Rattle.std.specs.shelf.Lists.{kept-by}
 use Rattle.std.proofs.shelf.Tests.{eqb-false, eq-eqb}
+use Rattle.policy.specs.Arity.{Parts}
+use Rattle.policy.specs.Known.{names-known}
 use Rattle.policy.specs.declared.template.Template.{Template}
 use Rattle.policy_set.specs.declared.rows.PolicyRow.{PolicyRow}
 use Rattle.policy_set.specs.declared.rows.Member.{Member}
 use Rattle.policy_set.specs.Tables.{Once, lookup, erase}
 use Rattle.policy_set.specs.Rows.{template-id, policy-id, member-id}
-use Rattle.policy_set.specs.Maps.{Maps, template-at, row-at, member-at, Parts, in-force, changed}
+use Rattle.policy_set.specs.Maps.{Maps, template-at, row-at, member-at, in-force, changed, thing}
+use Rattle.policy_set.specs.Maps.Thing.{policy, template}
 use Rattle.policy_set.specs.Sound.{member, Sound}
-use Rattle.policy_set.specs.Answers.{name-known, remove-static-answer, remove-static-after, no-rows, is-under, reverse-set, without-policy, without-template, policy-last}
+use Rattle.policy_set.specs.Answers.{remove-static-answer, remove-static-after, no-rows, is-under, reverse-set, without-policy, without-template, policy-last}
+use Rattle.policy_set.specs.Laws.{Removes}
+use Rattle.policy_set.proofs.Changes.{removes}
 use Rattle.policy_set.proofs.Lookups.{some-same, no-some, lookup-erased, lookup-kept, lookup-moved}
 use Rattle.policy_set.proofs.Sounds.{no-true}
 use Rattle.policy_set.proofs.Updates.{Update, Fits, Kept, kept, kept-same}
 
 -- nothing stands under an id
 pub nothing-fits : (m : Maps) → Fits m None None None
-nothing-fits m = record { one = refl; values = refl; member = refl }
+nothing-fits m = record { one = refl; values = refl; scopes = refl; member = refl }
 
 -- a link is removed
 pub link-removed : (m : Maps) (id : ℕ) → Sound m → template-at m id ≡ None → Update m (without-policy id m) id None None None
@@ -36,6 +41,11 @@ link-removed m id s n = record {
 
 pub link-removed-kept : (m : Maps) (id : ℕ) → Sound m → Kept m → template-at m id ≡ None → Kept (without-policy id m)
 link-removed-kept m id s old n = kept m (without-policy id m) id None None None (link-removed m id s n) old (nothing-fits (without-policy id m))
+
+pub link-removes : (m : Maps) (id : ℕ) (p : Parts) → Sound m → template-at m id ≡ None → in-force m id ≡ Some p → Removes m (without-policy id m) id (policy p)
+link-removes m id p s a b =
+    removes m (without-policy id m) id (policy p) (s .members-once) (link-removed m id s a) refl
+      (ap (λ (o : Option Template). thing o (in-force m id)) a ∙ ap (thing None) b)
 
 -- a static policy is removed
 pub static-removed-all : (m : Maps) (id : ℕ) (t : Template) (r : PolicyRow) → Sound m → template-at m id ≡ Some t → row-at m id ≡ Some r
@@ -86,6 +96,6 @@ pub policy-last-kept : (m : Maps) (id : ℕ) → Sound m → Kept m → Kept (po
 policy-last-kept m id s old = kept-same m (policy-last id m) (λ k. refl) (λ k. lookup-moved policy-id id (m .policies) k (s .policies-once)) (λ k. refl) old
 
 -- what removing a static policy answers and leaves where it accepts
-pub remove-static-accepts : (names : ℕ) (m : Maps) (id : ℕ) (p : Parts) → Ok tt ≡ name-known names id → Some p ≡ in-force m id → isSome (template-at m id) ≡ true
+pub remove-static-accepts : (names : ℕ) (m : Maps) (id : ℕ) (p : Parts) → Ok tt ≡ names-known names (id ∷ []) → Some p ≡ in-force m id → isSome (template-at m id) ≡ true
   → (Ok p ≡ remove-static-answer names m id) × (remove-static-after names m id ≡ without-template id (without-policy id m))
 remove-static-accepts names m id p a b c = (rw (← a, ← b, c) refl, rw (← a, ← b, c) refl)

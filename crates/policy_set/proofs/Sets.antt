@@ -6,7 +6,7 @@ use Rattle.policy_set.proofs.Sounds.{sound-of}
 use Rattle.policy_set.proofs.Updates.{Kept}
 
 pub sound : (s : PolicySet) → Sound (maps-of s)
-sound s = sound-of (maps-of s) (s .templates .once) (s .policies .once) (s .members .once) (s .«names_one») (s .valued) (s .«same_members»)
+sound s = sound-of (maps-of s) (s .templates .once) (s .policies .once) (s .members .once) (s .«names_one») (s .valued) (s .scoped) (s .«same_members»)
 
 pub kept-in : (s : PolicySet) → Kept (maps-of s)
-kept-in s = (s .«names_one», s .valued, s .«same_members»)
+kept-in s = record { one = s .«names_one»; values = s .valued; scopes = s .scoped; members = s .«same_members» }

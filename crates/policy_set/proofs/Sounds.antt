@@ -7,13 +7,15 @@ use Rattle.std.specs.declared.option.Option.{Option}
 use Rattle.std.specs.declared.option.Option.the-variants.{Some, None}
 use Rattle.std.proofs.shelf.Tests.{eqb-true, eqb-false, eq-eqb, ne-eqb, and-parts, and-from, not-true, not-from-false, false≢true}
 use Rattle.policy.specs.Binding.{value-slots, static-unbound}
+use Rattle.policy.specs.Arity.{Parts}
+use Rattle.policy.specs.Known.{names-known}
 use Rattle.policy.specs.declared.template.Template.{Template}
 use Rattle.policy_set.specs.declared.rows.PolicyRow.{PolicyRow}
 use Rattle.policy_set.specs.declared.rows.Member.{Member}
 use Rattle.policy_set.specs.Tables.{Once, lookup}
 use Rattle.policy_set.specs.Rows.{template-id, policy-id, member-id}
-use Rattle.policy_set.specs.Maps.{Maps, template-at, row-at, member-at, Parts, changed, passes, link-of, whole, in-force}
-use Rattle.policy_set.specs.Sound.{slotted, one-thing, valued, same-member, NamesOne, Valued, SameMembers, member, Sound}
+use Rattle.policy_set.specs.Maps.{Maps, template-at, row-at, member-at, changed, passes, link-of, whole, in-force}
+use Rattle.policy_set.specs.Sound.{has-slots, one-thing, valued, same-member, scoped, scopes-within, NamesOne, Valued, Scoped, SameMembers, member, Sound}
 use Rattle.policy_set.proofs.Lookups.{no-some, some-same, lookup-key}
 
 pub no-true : {R : Type 0} → false ≡ true → R
@@ -24,44 +26,45 @@ pub passed : {X : Type 0} (test : X → Bool) (o : Option X) → passes test o �
 passed test None e = no-true e
 passed test (Some x) e = (x, refl, e)
 
-pub slotted-not : (t : Template) → slotted t ≡ true → t .slots .bits ≡ 0 → ⊥
-slotted-not t e z = eqb-false (t .slots .bits) 0 (not-true _ e) z
+pub has-slots-not : (t : Template) → has-slots t ≡ true → t .slots .bits ≡ 0 → ⊥
+has-slots-not t e z = eqb-false (t .slots .bits) 0 (not-true _ e) z
 
-pub slotted-from : (t : Template) → (t .slots .bits ≡ 0 → ⊥) → slotted t ≡ true
-slotted-from t n = not-from-false _ (ne-eqb (t .slots .bits) 0 n)
+pub has-slots-from : (t : Template) → (t .slots .bits ≡ 0 → ⊥) → has-slots t ≡ true
+has-slots-from t n = not-from-false _ (ne-eqb (t .slots .bits) 0 n)
 
-pub slotless : (t : Template) → not (slotted t) ≡ true → t .slots .bits ≡ 0
+pub slotless : (t : Template) → not (has-slots t) ≡ true → t .slots .bits ≡ 0
 slotless t e = eqb-true (t .slots .bits) 0 (twice (eqb (t .slots .bits) 0) e)
   where
     twice : (b : Bool) → not (not b) ≡ true → b ≡ true
     twice true h = refl
     twice false h = h
 
-pub slotless-from : (t : Template) → t .slots .bits ≡ 0 → not (slotted t) ≡ true
+pub slotless-from : (t : Template) → t .slots .bits ≡ 0 → not (has-slots t) ≡ true
 slotless-from t z = ap (λ b. not (not b)) (eq-eqb (t .slots .bits) 0 z)
 
 -- what each id names, from the tests
 pub sound-of : (m : Maps) → Once template-id (m .templates) → Once policy-id (m .policies) → Once member-id (m .members)
-  → NamesOne m → Valued m → SameMembers m → Sound m
-sound-of m ot op om one val mem = record {
+  → NamesOne m → Valued m → Scoped m → SameMembers m → Sound m
+sound-of m ot op om one val sco mem = record {
     templates-once = ot;
     policies-once = op;
     members-once = om;
-    alone = λ k t e n. slotted-not t (at-key k (Some t) None e n);
+    alone = λ k t e n. has-slots-not t (at-key k (Some t) None e n);
     static = λ k t r e f.
-      let p = and-parts (not (r .link)) (eqb (r .template) (t .id) && not (slotted t)) (at-key k (Some t) (Some r) e f) in
-      let q = and-parts (eqb (r .template) (t .id)) (not (slotted t)) (p .1) in
+      let p = and-parts (not (r .link)) (eqb (r .template) (t .id) && not (has-slots t)) (at-key k (Some t) (Some r) e f) in
+      let q = and-parts (eqb (r .template) (t .id)) (not (has-slots t)) (p .1) in
       (eqb-true (r .template) (t .id) (q .0) ∙ lookup-key template-id k (m .templates) t e, not-true _ (p .0), slotless t (q .1));
     link = λ k r e f.
-      let p = and-parts (r .link) (passes slotted (template-at m (r .template))) (at-key k None (Some r) e f) in
-      let q = passed slotted (template-at m (r .template)) (p .1) in
-      (p .0, (q .0, q .1, slotted-not (q .0) (q .2)));
+      let p = and-parts (r .link) (passes has-slots (template-at m (r .template))) (at-key k None (Some r) e f) in
+      let q = passed has-slots (template-at m (r .template)) (p .1) in
+      (p .0, (q .0, q .1, has-slots-not (q .0) (q .2)));
     members = λ k. go k (member-at m k) (row-at m k) refl refl (mem k);
     values = λ k r t e f.
       let p : valued m (Some r) ≡ true = subst (λ (o : Option PolicyRow). valued m o ≡ true) e (val k) in
       let q : passes (λ (s : Template). eqb (value-slots (r .values)) (s .slots .bits)) (Some t) ≡ true =
         subst (λ (o : Option Template). passes (λ (s : Template). eqb (value-slots (r .values)) (s .slots .bits)) o ≡ true) f p in
-      eqb-true (value-slots (r .values)) (t .slots .bits) q }
+      eqb-true (value-slots (r .values)) (t .slots .bits) q;
+    scopes = λ k t e. subst (λ (o : Option Template). scoped o ≡ true) e (sco k) }
   where
     at-key : (k : ℕ) (o : Option Template) (p : Option PolicyRow) → template-at m k ≡ o → row-at m k ≡ p → one-thing m o p ≡ true
     at-key k o p e f = subst (λ (q : Option PolicyRow). one-thing m o q ≡ true) f (subst (λ (q : Option Template). one-thing m q (row-at m k) ≡ true) e (one k))

@@ -12,7 +12,7 @@ use Rattle.policy.specs.declared.template.Template.{Template}
 use Rattle.policy_set.specs.declared.rows.PolicyRow.{PolicyRow}
 use Rattle.policy_set.specs.declared.rows.Member.{Member}
 use Rattle.policy_set.specs.Maps.{Maps, template-at, row-at, member-at, passes}
-use Rattle.policy_set.specs.Sound.{slotted, one-thing, valued, same-member, NamesOne, Valued, SameMembers}
+use Rattle.policy_set.specs.Sound.{has-slots, one-thing, valued, same-member, scoped, NamesOne, Valued, Scoped, SameMembers}
 
 -- `after` is `before` but for what stands under the id.
 pub record Update (before after : Maps) (id : ℕ) (t : Option Template) (r : Option PolicyRow) (x : Option Member) : Type 0 where
@@ -26,10 +26,15 @@ pub record Update (before after : Maps) (id : ℕ) (t : Option Template) (r : Op
 pub record Fits (after : Maps) (t : Option Template) (r : Option PolicyRow) (x : Option Member) : Type 0 where
   pub one : one-thing after t r ≡ true
   pub values : valued after r ≡ true
+  pub scopes : scoped t ≡ true
   pub member : same-member x r ≡ true
 
-abbrev pub Kept : Maps → Type 0
-Kept m = NamesOne m × Valued m × SameMembers m
+-- what a set's type keeps
+pub record Kept (m : Maps) : Type 0 where
+  pub one : NamesOne m
+  pub values : Valued m
+  pub scopes : Scoped m
+  pub members : SameMembers m
 
 module _ (before after : Maps) (id : ℕ) (t : Option Template) (r : Option PolicyRow) (x : Option Member) (u : Update before after id t r x) where
   -- a policy under another id finds the template that it found
@@ -64,7 +69,7 @@ module _ (before after : Maps) (id : ℕ) (t : Option Template) (r : Option Poli
       old : (o : Option Template) (p : Option PolicyRow) → row-at before k ≡ p → eqb id k ≡ false → one-thing before o p ≡ true → one-thing after o p ≡ true
       old None None e n h = h
       old (Some s) None e n h = h
-      old None (Some q) e n h = ap (λ (o : Option Template). q .link && passes slotted o) (same-template k q n e) ∙ h
+      old None (Some q) e n h = ap (λ (o : Option Template). q .link && passes has-slots o) (same-template k q n e) ∙ h
       old (Some s) (Some q) e n h = h
       go : (b : Bool) → eqb id k ≡ b → one-thing after (template-at after k) (row-at after k) ≡ true
       go true h = rw (here-template k h, here-row k h) (f .one)
@@ -80,6 +85,13 @@ module _ (before after : Maps) (id : ℕ) (t : Option Template) (r : Option Poli
       go true h = rw (here-row k h) (f .values)
       go false h = rw (other-row k h) (old (row-at before k) refl h (val k))
 
+  scoped-kept : Scoped before → Fits after t r x → Scoped after
+  scoped-kept sco f k = go (eqb id k) refl
+    where
+      go : (b : Bool) → eqb id k ≡ b → scoped (template-at after k) ≡ true
+      go true h = rw (here-template k h) (f .scopes)
+      go false h = rw (other-template k h) (sco k)
+
   same-members-kept : SameMembers before → Fits after t r x → SameMembers after
   same-members-kept mem f k = go (eqb id k) refl
     where
@@ -88,7 +100,11 @@ module _ (before after : Maps) (id : ℕ) (t : Option Template) (r : Option Poli
       go false h = rw (other-member k h, other-row k h) (mem k)
 
   pub kept : Kept before → Fits after t r x → Kept after
-  kept old f = (names-one-kept (old .0) f, valued-kept (old .1) f, same-members-kept (old .2) f)
+  kept old f = record {
+    one = names-one-kept (old .one) f;
+    values = valued-kept (old .values) f;
+    scopes = scoped-kept (old .scopes) f;
+    members = same-members-kept (old .members) f }
 
 -- maps are equal where their lists are
 pub maps-equal : (m : Maps) (ts : List Template) (ps : List PolicyRow) (ms : List Member) → ts ≡ m .templates → ps ≡ m .policies → ms ≡ m .members
@@ -109,16 +125,17 @@ kept-as m ts ps ms a b c old = subst Kept (sym (maps-equal m ts ps ms a b c)) ol
 -- where every id finds what it found
 pub kept-same : (before after : Maps) → ((k : ℕ) → template-at after k ≡ template-at before k) → ((k : ℕ) → row-at after k ≡ row-at before k)
   → ((k : ℕ) → member-at after k ≡ member-at before k) → Kept before → Kept after
-kept-same before after ts ps ms old =
-    ( λ k. rw (ts k, ps k) (one (template-at before k) (row-at before k) (old .0 k))
-    , λ k. rw (ps k) (values (row-at before k) (old .1 k))
-    , λ k. rw (ms k, ps k) (old .2 k) )
+kept-same before after ts ps ms old = record {
+    one = λ k. rw (ts k, ps k) (things (template-at before k) (row-at before k) (old .one k));
+    values = λ k. rw (ps k) (given (row-at before k) (old .values k));
+    scopes = λ k. rw (ts k) (old .scopes k);
+    members = λ k. rw (ms k, ps k) (old .members k) }
   where
-    one : (o : Option Template) (p : Option PolicyRow) → one-thing before o p ≡ true → one-thing after o p ≡ true
-    one None None h = h
-    one (Some s) None h = h
-    one None (Some q) h = ap (λ (o : Option Template). q .link && passes slotted o) (ts (q .template)) ∙ h
-    one (Some s) (Some q) h = h
-    values : (p : Option PolicyRow) → valued before p ≡ true → valued after p ≡ true
-    values None h = h
-    values (Some q) h = ap (passes (λ (s : Template). eqb (value-slots (q .values)) (s .slots .bits))) (ts (q .template)) ∙ h
+    things : (o : Option Template) (p : Option PolicyRow) → one-thing before o p ≡ true → one-thing after o p ≡ true
+    things None None h = h
+    things (Some s) None h = h
+    things None (Some q) h = ap (λ (o : Option Template). q .link && passes has-slots o) (ts (q .template)) ∙ h
+    things (Some s) (Some q) h = h
+    given : (p : Option PolicyRow) → valued before p ≡ true → valued after p ≡ true
+    given None h = h
+    given (Some q) h = ap (passes (λ (s : Template). eqb (value-slots (q .values)) (s .slots .bits))) (ts (q .template)) ∙ h

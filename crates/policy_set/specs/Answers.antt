@@ -2,7 +2,7 @@
 use mathlib.Core.List.{List, [], _∷_, _++_}
 use mathlib.Core.Bool.{Bool, true, false, cond, not, _&&_, _||_}
 use Prim.Native.Nat.{ℕ}
-use lib.Dec.{eqb, ltb}
+use lib.Dec.{eqb}
 use Rattle.std.specs.declared.option.Option.{Option}
 use Rattle.std.specs.declared.option.Option.the-variants.{Some, None}
 use Rattle.std.specs.declared.result.Result.{Result}
@@ -10,30 +10,27 @@ use Rattle.std.specs.declared.result.Result.the-variants.{Ok, Err}
 use Rattle.std.specs.Options.{isSome}
 use Rattle.std.specs.shelf.Lists.{kept-by}
 use Rattle.refusals.specs.declared.refusal.Refusal.{Refusal}
-use Rattle.refusals.specs.declared.refusal.Refusal.the-variants.{UnknownName, NotLinkError, UnlinkingError, RemovePolicyNoLinkError, RemovePolicyNoTemplateError, NotTemplateError, RemoveTemplateNoTemplateError, RemoveTemplateWithLinksError}
+use Rattle.refusals.specs.declared.refusal.Refusal.the-variants.{NoSuchTemplate, PolicyIdConflict, NotLinkError, UnlinkingError, RemovePolicyNoLinkError, RemovePolicyNoTemplateError, NotTemplateError, RemoveTemplateNoTemplateError, RemoveTemplateWithLinksError, Slotless, Full}
+use Rattle.refusals.specs.declared.refusal.Table.the-variants.{Policies}
+use Rattle.policy.specs.Known.{and-then, names-known, values-names}
+use Rattle.policy.specs.Arity.{Parts, bindable}
+use Rattle.policy.specs.declared.values.SlotEnv.{SlotEnv}
 use Rattle.policy.specs.declared.template.Template.{Template}
+use Rattle.policy_set.specs.declared.rows.PolicyRow.{PolicyRow}
 use Rattle.policy_set.specs.declared.rows.Member.{Member}
-use Rattle.policy_set.specs.Tables.{erase, moved-last}
+use Rattle.policy_set.specs.Tables.{erase, moved-last, has-room}
 use Rattle.policy_set.specs.Rows.{template-id, policy-id, member-id}
-use Rattle.policy_set.specs.Maps.{Maps, Parts, template-at, row-at, in-force}
-
--- Where the first test refuses, its refusal stands.
-abbrev pub and-then : {X : Type 0} → Result (Unit {0}) Refusal → Result X Refusal → Result X Refusal
-and-then (Ok u) r = r
-and-then (Err e) r = Err e
-
--- Refusal 1 of a name that is not below the count.
-abbrev pub name-known : ℕ → ℕ → Result (Unit {0}) Refusal
-name-known count id = cond (ltb id count) (Ok tt) (Err (UnknownName id))
+use Rattle.policy_set.specs.Maps.{Maps, template-at, row-at, in-force, bound}
+use Rattle.policy_set.specs.Sound.{has-slots, member}
 
 -- A refusal where a test says yes.
 abbrev pub refuse-if : Bool → Refusal → Result (Unit {0}) Refusal
 refuse-if b e = cond b (Err e) (Ok tt)
 
--- What is there, or a refusal.
-abbrev pub found-or : {X : Type 0} → Refusal → Option X → Result X Refusal
-found-or e None = Err e
-found-or e (Some x) = Ok x
+-- What is there goes on; else a refusal.
+abbrev pub found-then : {X Y : Type 0} → Refusal → Option X → (X → Result Y Refusal) → Result Y Refusal
+found-then e None answer = Err e
+found-then e (Some x) answer = answer x
 
 -- The maps after a call that changes them only where it accepts.
 abbrev pub if-accepted : {X : Type 0} → Result X Refusal → Maps → Maps → Maps
@@ -62,18 +59,47 @@ is-empty m = no-rows (m .templates) && no-rows (m .policies)
 
 -- `get`: the policy of an id.
 abbrev pub get-answer : ℕ → Maps → ℕ → Result (Option Parts) Refusal
-get-answer names m id = and-then (name-known names id) (Ok (in-force m id))
+get-answer names m id = and-then (names-known names (id ∷ [])) (Ok (in-force m id))
 
 -- `get_template`: the template of an id.
 abbrev pub get-template-answer : ℕ → Maps → ℕ → Result (Option Template) Refusal
-get-template-answer names m id = and-then (name-known names id) (Ok (template-at m id))
+get-template-answer names m id = and-then (names-known names (id ∷ [])) (Ok (template-at m id))
+
+-- The link of a template: 12, 13, 25 and 27; else the new policy.
+abbrev pub linked-answer : Maps → ℕ → SlotEnv → Template → Result Parts Refusal
+linked-answer m new values t =
+    and-then (bindable (t .slots) values)
+    (and-then (refuse-if (bound m new) (PolicyIdConflict new))
+    (and-then (refuse-if (not (has-slots t)) (Slotless (t .id)))
+    (and-then (refuse-if (not (has-room 256 (m .policies))) (Full Policies))
+    (Ok (record { template = t; link = Some new; values = values })))))
+
+-- `link`: 1 and 11, then those of the link; else the new policy.
+abbrev pub link-answer : ℕ → Maps → ℕ → ℕ → SlotEnv → Result Parts Refusal
+link-answer names m template new values =
+    and-then (names-known names (template ∷ new ∷ values-names values))
+    (found-then (NoSuchTemplate template) (template-at m template) (linked-answer m new values))
+
+-- The maps with one policy more, last among the policies and among the members.
+abbrev pub with-policy : PolicyRow → Maps → Maps
+with-policy r m = record {
+  templates = m .templates;
+  policies = m .policies ++ r ∷ [];
+  members = m .members ++ member r ∷ [] }
+
+-- The row of a link.
+abbrev pub link-row : ℕ → ℕ → SlotEnv → PolicyRow
+link-row template new values = record { id = new; template = template; link = true; values = values }
+
+abbrev pub link-after : ℕ → Maps → ℕ → ℕ → SlotEnv → Maps
+link-after names m template new values = if-accepted (link-answer names m template new values) (with-policy (link-row template new values) m) m
 
 -- `unlink`: 1, 14 and 15; else the policy.
 abbrev pub unlink-answer : ℕ → Maps → ℕ → Result Parts Refusal
 unlink-answer names m id =
-    and-then (name-known names id)
+    and-then (names-known names (id ∷ []))
     (and-then (refuse-if (isSome (template-at m id)) (NotLinkError id))
-    (found-or (UnlinkingError id) (in-force m id)))
+    (found-then (UnlinkingError id) (in-force m id) Ok))
 
 -- The maps without a policy.
 abbrev pub without-policy : ℕ → Maps → Maps
@@ -92,7 +118,7 @@ static-policy id (Some p) in-templates = cond in-templates (Ok p) (Err (RemovePo
 
 -- `remove_static`: 1, 16 and 17; else the policy.
 abbrev pub remove-static-answer : ℕ → Maps → ℕ → Result Parts Refusal
-remove-static-answer names m id = and-then (name-known names id) (static-policy id (in-force m id) (isSome (template-at m id)))
+remove-static-answer names m id = and-then (names-known names (id ∷ [])) (static-policy id (in-force m id) (isSome (template-at m id)))
 
 -- The maps without a template.
 abbrev pub without-template : ℕ → Maps → Maps
@@ -108,7 +134,7 @@ static-removed id None in-templates m = m
 static-removed id (Some p) in-templates m = cond in-templates (without-template id (without-policy id m)) (policy-last id m)
 
 abbrev pub remove-static-after : ℕ → Maps → ℕ → Maps
-remove-static-after names m id = if-accepted (name-known names id) (static-removed id (in-force m id) (isSome (template-at m id)) m) m
+remove-static-after names m id = if-accepted (names-known names (id ∷ [])) (static-removed id (in-force m id) (isSome (template-at m id)) m) m
 
 -- A template without policies: 19 and 20 where it is not one.
 abbrev pub unlinked-template : ℕ → Option Template → List Member → Result Template Refusal
@@ -118,7 +144,7 @@ unlinked-template id (Some t) members = cond (no-rows members) (Ok t) (Err (Remo
 -- `remove_template`: 1, 18, 19 and 20; else the template.
 abbrev pub remove-template-answer : ℕ → Maps → ℕ → Result Template Refusal
 remove-template-answer names m id =
-    and-then (name-known names id)
+    and-then (names-known names (id ∷ []))
     (and-then (refuse-if (isSome (row-at m id)) (NotTemplateError id))
     (unlinked-template id (template-at m id) (reverse-set id m)))
 

@@ -3,6 +3,9 @@ pub mod Rows
 pub mod Maps
 pub mod Sound
 pub mod Answers
+pub mod Laws
+pub mod Listing
+pub mod Validation
 pub mod Handed
 pub mod Held
 pub mod Meaning

@@ -10,7 +10,7 @@ use Rattle.policy.specs.declared.constraint.Effect.the-variants.{Permit}
 use Rattle.policy.specs.declared.constraint.PrincipalOrResourceConstraint.the-variants as scope
 use Rattle.policy.specs.declared.action.ActionConstraint.the-variants as action
 use Rattle.policy.specs.declared.template.Template.{Template}
-use Rattle.policy.specs.declared.values.SlotEnv.{SlotEnv}
+use Rattle.policy.specs.Arity.{Parts}
 use Rattle.policy_set.specs.declared.rows.PolicyRow.{PolicyRow}
 use Rattle.policy_set.specs.declared.rows.Member.{Member}
 use Rattle.policy_set.specs.Tables.{lookup}
@@ -60,12 +60,6 @@ blank-template = record {
 abbrev pub present : Option Template → Template
 present None = blank-template
 present (Some t) = t
-
--- What a policy is made of: its template whole, its link id if it is a link, and its values.
-pub record Parts : Type 0 where
-  pub template : Template
-  pub link : Option ℕ
-  pub values : SlotEnv
 
 -- The link id of a row.
 abbrev pub link-of : PolicyRow → Option ℕ

@@ -1,16 +1,20 @@
 // What a set answers about its templates and policies.
 ghost use mathlib.Core.Path.{_≡_};
 ghost use mathlib.Core.Bool.{not};
+ghost use mathlib.Core.List.{[], _∷_};
 ghost use Rattle.std.specs.Options.{isSome};
 ghost use lib.ListN.{length};
 ghost use Rattle.names.specs.Book.{texts};
-ghost use Rattle.policy_set.specs.Maps.{template-at, row-at, link-of, changed, in-force};
-ghost use Rattle.policy_set.specs.Answers.{empty, is-empty, no-rows, is-under, reverse-set, name-known, get-answer, get-template-answer};
-ghost use Rattle.policy_set.specs.Handed.{parts, parts-found};
+ghost use Rattle.policy_set.specs.Maps.{template-at, row-at, bound, link-of, changed, in-force};
+ghost use Rattle.policy_set.specs.Answers.{empty, is-empty, no-rows, is-under, reverse-set, get-answer, get-template-answer};
+ghost use Rattle.policy_set.specs.Handed.{parts-found};
+ghost use Rattle.policy.specs.Arity.{parts};
+ghost use Rattle.policy.specs.Known.{names-known};
 ghost use Rattle.policy_set.specs.Meaning.{maps-of};
 
 use names::kept::NameBook;
 use policy::bound::Policy;
+use policy::known::known_name;
 use policy::template::Template;
 use refusals::NameNumber;
 use refusals::refusal::Refusal;
@@ -28,13 +32,9 @@ use crate::tables::Templates;
 
 // Refusal 1 of a name that the book lacks.
 pub(crate) fn known(names: &NameBook, id: NameNumber) -> Result<(), Refusal>
-    ensures { λ r. ⌜ r ≡ name-known (length (texts (now (names .entry)))) id ⌝ }
+    ensures { λ r. ⌜ r ≡ names-known (length (texts (now (names .entry)))) (id ∷ []) ⌝ }
 {
-    if (id as usize) < names.count() {
-        Ok(())
-    } else {
-        Err(Refusal::UnknownName(id))
-    }
+    known_name(names.count(), id)
 }
 
 // Asks for the members of a template.
@@ -97,6 +97,13 @@ impl PolicySet {
         ensures { λ r. ⌜ r ≡ isSome (row-at (maps-of (now (self .entry))) id) ⌝ }
     {
         self.row(id).is_some()
+    }
+
+    // Whether an id is a template's or a policy's.
+    pub(crate) fn is_bound(&self, id: NameNumber) -> bool
+        ensures { λ r. ⌜ r ≡ bound (maps-of (now (self .entry))) id ⌝ }
+    {
+        self.has_template(id) || self.has_policy(id)
     }
 
     // Whether a template has policies.

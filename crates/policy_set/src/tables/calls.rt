@@ -3,7 +3,7 @@ ghost use mathlib.Core.Path.{_≡_};
 ghost use mathlib.Core.List.{_++_, _∷_, []};
 ghost use Prim.Native.Nat.{_<_};
 ghost use lib.ListN.{length};
-ghost use Rattle.policy_set.specs.Tables.{lookup, erase, moved-last};
+ghost use Rattle.policy_set.specs.Tables.{lookup, erase, moved-last, has-room};
 ghost use Rattle.policy_set.specs.Rows.{template-id, policy-id, member-id};
 ghost use Rattle.policy_set.specs.Held.{templates-in, policies-in, members-in};
 ghost use Rattle.std.specs.declared.option.Option.the-variants.{None};
@@ -60,6 +60,13 @@ impl Templates {
         &self.rows[0..self.used]
     }
 
+    // Whether there is room for one row more.
+    pub(crate) fn has_room(&self) -> bool
+        ensures { λ r. ⌜ r ≡ has-room 64 (templates-in (now (self .entry))) ⌝ }
+    {
+        self.rows().len() < 64
+    }
+
     // Appends a row of a new key.
     pub(crate) fn push(&mut self, row: Template)
         requires room { ⌜ length (templates-in (now self)) < 64 ⌝ }
@@ -90,6 +97,13 @@ impl Policies {
         ensures { λ r. ⌜ now r ≡ policies-in (now (self .entry)) ⌝ }
     {
         &self.rows[0..self.used]
+    }
+
+    // Whether there is room for one row more.
+    pub(crate) fn has_room(&self) -> bool
+        ensures { λ r. ⌜ r ≡ has-room 256 (policies-in (now (self .entry))) ⌝ }
+    {
+        self.rows().len() < 256
     }
 
     // Appends a row of a new key.

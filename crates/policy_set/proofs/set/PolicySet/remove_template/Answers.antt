@@ -20,4 +20,4 @@ ghost-self c =
       (template-removed-kept (maps-of set) id (sound set) (kept-in set)
         (is-none (row-at (maps-of set) id) (sym (c .has-policy .ensures) ∙ c .if-has-policy .left))
         (not-false _ (sym (c .has-members .ensures) ∙ c .if-has-members .left))) in
-    (k .0, (k .1, (k .2, tt)))
+    (k .one, (k .values, (k .scopes, (k .members, tt))))

@@ -1,0 +1,3 @@
+pub mod book;
+pub mod scanner;
+pub mod text;

@@ -1,0 +1,4 @@
+mod FirstWord
+mod Spelling
+mod Encoding
+mod Numerals
