@@ -11,8 +11,9 @@ use Rattle.policy.specs.declared.constraint.Effect.the-variants.{Permit, Forbid
 use Rattle.policy.specs.declared.template.Template.{Template}
 use Rattle.policy.specs.Equality.{effect-equal, scope-equal, scopes-equal, action-equal, option-equal, template-equal, values-equal}
 use Rattle.policy.proofs.Deciding.{numbers, options, scopes, actions, environments, whenever}
+use Rattle.policy.specs.Arity.{Parts}
 use Rattle.policy_set.specs.declared.rows.PolicyRow.{PolicyRow}
-use Rattle.policy_set.specs.Maps.{Parts, changed, link-of}
+use Rattle.policy_set.specs.Maps.{changed, link-of}
 use Rattle.policy_set.specs.Merge.{parts-equal, renamed-template, renamed-policy}
 use Rattle.policy_set.proofs.Lookups.{no-some}
 use Rattle.policy_set.proofs.Sounds.{no-true}

@@ -11,11 +11,12 @@ use Rattle.std.specs.Options.{isSome}
 use Rattle.std.proofs.shelf.Tests.{eqb-true, eq-eqb, ne-eqb}
 use Rattle.policy.specs.declared.template.Template.{Template}
 use Rattle.policy.specs.Equality.{template-equal}
+use Rattle.policy.specs.Arity.{Parts}
 use Rattle.policy_set.specs.declared.rows.PolicyRow.{PolicyRow}
 use Rattle.policy_set.specs.Tables.{one-if, lookup, times, Once}
 use Rattle.policy_set.specs.Rows.{template-id, policy-id}
-use Rattle.policy_set.specs.Maps.{Maps, Parts, template-at, row-at, changed, passes, present, whole, in-force, bound, thing, named}
-use Rattle.policy_set.specs.Sound.{Sound, slotted}
+use Rattle.policy_set.specs.Maps.{Maps, template-at, row-at, changed, passes, present, whole, in-force, bound, thing, named}
+use Rattle.policy_set.specs.Sound.{Sound, has-slots}
 use Rattle.policy_set.specs.Merge.{parts-equal, things-equal, unequal, unequal-template, unequal-policy, template-on-policy, link-on-template, among, noted, gather, gathered}
 use Rattle.policy_set.specs.MergeLaw.{clash}
 use Rattle.policy_set.proofs.Lookups.{lookup-key, once-tail, once-head, times-push}
@@ -113,7 +114,7 @@ module _ (same : ℕ → ℕ → Bool) (live incoming : Maps) (sl : Sound live) 
   tests ot op it ip =
       (((false || unequal (template-equal same) ot it)
       || unequal (parts-equal same) (changed (whole live) op) (changed (whole incoming) ip))
-      || passes (λ (t : Template). slotted t && isSome op) it)
+      || passes (λ (t : Template). has-slots t && isSome op) it)
       || passes (λ (r : PolicyRow). r .link && isSome ot) ip
 
   cases : (ot : Option Template) (op : Option PolicyRow) (it : Option Template) (ip : Option PolicyRow)
@@ -177,9 +178,9 @@ module _ (same : ℕ → ℕ → Bool) (live incoming : Maps) (sl : Sound live) 
       ∙ ap (λ (p : Option PolicyRow). unequal (parts-equal same) (in-force live k) (changed (whole incoming) p)) e
 
   third : (o : Option Template) → template-at incoming k ≡ o
-      → passes (template-on-policy live) o ≡ passes (λ (t : Template). slotted t && isSome (row-at live k)) o
+      → passes (template-on-policy live) o ≡ passes (λ (t : Template). has-slots t && isSome (row-at live k)) o
   third None e = refl
-  third (Some t) e = ap (λ j. slotted t && isSome (row-at live j)) (lookup-key template-id k (incoming .templates) t e)
+  third (Some t) e = ap (λ j. has-slots t && isSome (row-at live j)) (lookup-key template-id k (incoming .templates) t e)
 
   fourth : (o : Option PolicyRow) → row-at incoming k ≡ o
       → passes (link-on-template live) o ≡ passes (λ (r : PolicyRow). r .link && isSome (template-at live k)) o

@@ -13,10 +13,10 @@ use Rattle.policy_set.specs.declared.rows.PolicyRow.{PolicyRow}
 use Rattle.policy_set.specs.declared.rows.Member.{Member}
 use Rattle.policy_set.specs.Rows.{template-id, policy-id, member-id}
 use Rattle.policy_set.specs.Maps.{Maps, template-at, row-at, member-at, changed, passes}
-use Rattle.policy_set.specs.Sound.{Sound, member, slotted, one-thing, valued, same-member}
+use Rattle.policy_set.specs.Sound.{Sound, member, has-slots, one-thing, valued, scoped, scopes-within, same-member}
 use Rattle.policy_set.specs.Merge.{renamed-template, renamed-row, renamed-member, merged}
 use Rattle.policy_set.proofs.Lookups.{some-same, lookup-key, once-all}
-use Rattle.policy_set.proofs.Sounds.{template-of, slotted-from, slotless-from}
+use Rattle.policy_set.proofs.Sounds.{template-of, has-slots-from, slotless-from}
 use Rattle.policy_set.proofs.Updates.{Kept}
 use Rattle.policy_set.proofs.Equals.{SameTemplate}
 use Rattle.policy_set.proofs.FinalIds.{Moves}
@@ -103,6 +103,14 @@ module _ (same : ℕ → ℕ → Bool) (live incoming : Maps) (f : ℕ → ℕ) 
         ∙ ap (λ (x : Template). x .slots .bits) (some-same (renamed-template f (g .0)) t (sym m ∙ e′)))
   ]
 
+  scopes-after : (k : ℕ) (t : Template) → template-at (merged f live incoming) k ≡ Some t → scopes-within t ≡ true
+  scopes-after k t e = elim (names same live incoming f back sl si mv k) [
+    | inl h ↦ sl .scopes k t (sym (h .templates) ∙ e)
+    | inr h ↦
+        let x = changed-some (renamed-template f) (template-at incoming (h .0)) t (sym (h .1 .templates) ∙ e) in
+        ap scopes-within (sym (x .2)) ∙ si .scopes (h .0) (x .0) (x .1)
+  ]
+
   pub sound-after : Sound (merged f live incoming)
   sound-after = record {
     templates-once = once-all template-id (renamed-template f) (live .templates) (incoming .templates) (sl .templates-once);
@@ -113,32 +121,38 @@ module _ (same : ℕ → ℕ → Bool) (live incoming : Maps) (f : ℕ → ℕ) 
     link = link-after;
     members = members-after;
     values = values-after;
+    scopes = scopes-after;
   }
 
 -- what is sound passes the tests of a set's type
 pub kept-of : (m : Maps) → Sound m → Kept m
-kept-of m so = (
-  (λ k. one k (template-at m k) (row-at m k) refl refl),
-  (λ k. values k (row-at m k) refl),
-  λ k. ap (λ (o : Option Member). same-member o (row-at m k)) (so .members k) ∙ members (row-at m k),
-)
+kept-of m so = record {
+  one = λ k. one k (template-at m k) (row-at m k) refl refl;
+  values = λ k. values k (row-at m k) refl;
+  scopes = λ k. scopes k (template-at m k) refl;
+  members = λ k. ap (λ (o : Option Member). same-member o (row-at m k)) (so .members k) ∙ members (row-at m k);
+}
   where
     one : (k : ℕ) (o : Option Template) (p : Option PolicyRow) → template-at m k ≡ o → row-at m k ≡ p → one-thing m o p ≡ true
     one k None None e f = refl
-    one k (Some t) None e f = slotted-from t (so .alone k t e f)
+    one k (Some t) None e f = has-slots-from t (so .alone k t e f)
     one k None (Some r) e f =
         let l = so .link k r e f in
-        and-from (r .link) (passes slotted (template-at m (r .template))) (l .0) (ap (passes slotted) (l .1 .1) ∙ slotted-from (l .1 .0) (l .1 .2))
+        and-from (r .link) (passes has-slots (template-at m (r .template))) (l .0) (ap (passes has-slots) (l .1 .1) ∙ has-slots-from (l .1 .0) (l .1 .2))
     one k (Some t) (Some r) e f =
         let s = so .static k t r e f in
-        and-from (not (r .link)) (eqb (r .template) (t .id) && not (slotted t)) (not-from-false (r .link) (s .1))
-        (and-from (eqb (r .template) (t .id)) (not (slotted t)) (eq-eqb (r .template) (t .id) (s .0 ∙ sym (lookup-key template-id k (m .templates) t e))) (slotless-from t (s .2)))
+        and-from (not (r .link)) (eqb (r .template) (t .id) && not (has-slots t)) (not-from-false (r .link) (s .1))
+        (and-from (eqb (r .template) (t .id)) (not (has-slots t)) (eq-eqb (r .template) (t .id) (s .0 ∙ sym (lookup-key template-id k (m .templates) t e))) (slotless-from t (s .2)))
 
     values : (k : ℕ) (p : Option PolicyRow) → row-at m k ≡ p → valued m p ≡ true
     values k None f = refl
     values k (Some r) f =
         let t = template-of m so k r f in
         ap (passes (λ (u : Template). eqb (value-slots (r .values)) (u .slots .bits))) (t .1) ∙ eq-eqb (value-slots (r .values)) (t .0 .slots .bits) (so .values k r (t .0) f (t .1))
+
+    scopes : (k : ℕ) (o : Option Template) → template-at m k ≡ o → scoped o ≡ true
+    scopes k None e = refl
+    scopes k (Some t) e = so .scopes k t e
 
     members : (p : Option PolicyRow) → same-member (changed member p) p ≡ true
     members None = refl

@@ -10,11 +10,12 @@ use Rattle.std.specs.Options.{isSome}
 use Rattle.std.proofs.shelf.Tests.{or-left, or-right}
 use Rattle.policy.specs.declared.template.Template.{Template}
 use Rattle.policy.specs.Equality.{template-equal}
+use Rattle.policy.specs.Arity.{Parts}
 use Rattle.policy_set.specs.declared.rows.PolicyRow.{PolicyRow}
 use Rattle.policy_set.specs.declared.rows.Member.{Member}
 use Rattle.policy_set.specs.Tables.{lookup, Once}
 use Rattle.policy_set.specs.Rows.{template-id, policy-id, member-id}
-use Rattle.policy_set.specs.Maps.{Maps, Parts, template-at, row-at, member-at, changed, present, link-of, whole, in-force, bound, Thing, thing, named}
+use Rattle.policy_set.specs.Maps.{Maps, template-at, row-at, member-at, changed, present, link-of, whole, in-force, bound, Thing, thing, named}
 use Rattle.policy_set.specs.Maps.Thing.{nothing, template, policy}
 use Rattle.policy_set.specs.Sound.{Sound, member}
 use Rattle.policy_set.specs.Merge.{things-equal, renamed-template, renamed-row, renamed-member, renamed-policy, renamed-thing, merged}

@@ -11,10 +11,11 @@ use Rattle.std.proofs.shelf.Tests.{lt-ltb, le-ltb}
 use Rattle.clauses.specs.Book.{Clause, Decides, at, same-content, same-clause}
 use Rattle.policy.specs.declared.template.Template.{Template}
 use Rattle.policy.specs.Equality.{option-equal}
+use Rattle.policy.specs.Arity.{Parts}
 use Rattle.policy_set.specs.declared.rows.PolicyRow.{PolicyRow}
 use Rattle.policy_set.specs.declared.rows.Renaming.{Renaming}
 use Rattle.policy_set.specs.Tables.{one-if}
-use Rattle.policy_set.specs.Maps.{Maps, Parts, template-at, row-at, changed, passes, whole, in-force, bound, named}
+use Rattle.policy_set.specs.Maps.{Maps, template-at, row-at, changed, passes, whole, in-force, bound, named}
 use Rattle.policy_set.specs.Sound.{Sound}
 use Rattle.policy_set.specs.Merge.{parts-equal, things-equal, final, origin, renamed-template, renamed-row, renamed-policy, merged}
 use Rattle.policy_set.specs.MergeLaw.{Chosen}

@@ -8,14 +8,15 @@ use Rattle.std.specs.declared.option.Option.the-variants.{Some, None}
 use Rattle.std.specs.Options.{isSome}
 use Rattle.policy.specs.declared.template.Template.{Template}
 use Rattle.policy.specs.Equality.{option-equal, template-equal, values-equal}
+use Rattle.policy.specs.Arity.{Parts}
 use Rattle.policy_set.specs.declared.rows.PolicyRow.{PolicyRow}
 use Rattle.policy_set.specs.declared.rows.Member.{Member}
 use Rattle.policy_set.specs.declared.rows.Renaming.{Renaming}
 use Rattle.policy_set.specs.Tables.{one-if, lookup, put-all}
 use Rattle.policy_set.specs.Rows.{template-id, policy-id, member-id}
-use Rattle.policy_set.specs.Maps.{Maps, Parts, template-at, row-at, changed, in-force, Thing}
+use Rattle.policy_set.specs.Maps.{Maps, template-at, row-at, changed, in-force, Thing}
 use Rattle.policy_set.specs.Maps.Thing.{nothing, template, policy}
-use Rattle.policy_set.specs.Sound.{slotted}
+use Rattle.policy_set.specs.Sound.{has-slots}
 
 -- Two policies are equal when their templates, link ids and values are. Clauses are compared by `same`, here and below.
 abbrev pub parts-equal : (ℕ → ℕ → Bool) → Parts → Parts → Bool
@@ -51,7 +52,7 @@ unequal-policy same live incoming r = unequal (parts-equal same) (in-force live 
 
 -- The template has slots, and a policy is live under its id.
 abbrev pub template-on-policy : Maps → Template → Bool
-template-on-policy live t = slotted t && isSome (row-at live (t .id))
+template-on-policy live t = has-slots t && isSome (row-at live (t .id))
 
 -- The policy is a link, and a template is live under its id.
 abbrev pub link-on-template : Maps → PolicyRow → Bool

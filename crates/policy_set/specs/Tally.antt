@@ -8,9 +8,10 @@ use Rattle.std.specs.declared.option.Option.{Option}
 use Rattle.std.specs.declared.option.Option.the-variants.{Some, None}
 use Rattle.std.specs.Options.{isSome}
 use Rattle.policy.specs.declared.template.Template.{Template}
+use Rattle.policy.specs.Arity.{Parts}
 use Rattle.policy_set.specs.declared.rows.Renaming.{Renaming}
 use Rattle.policy_set.specs.Tables.{one-if}
-use Rattle.policy_set.specs.Maps.{Maps, Parts, template-at, in-force, passes}
+use Rattle.policy_set.specs.Maps.{Maps, template-at, in-force, passes}
 use Rattle.policy_set.specs.Sound.{Sound}
 use Rattle.policy_set.specs.Merge.{parts-equal, final, origin, renamed-template, renamed-policy, merged}
 
