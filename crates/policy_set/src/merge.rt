@@ -2,3 +2,4 @@
 pub(crate) mod attempt;
 pub(crate) mod candidate;
 pub(crate) mod gather;
+pub(crate) mod put;
