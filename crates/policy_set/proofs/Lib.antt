@@ -27,3 +27,4 @@ mod NameSearch
 mod NewTexts
 mod RowCounts
 mod Turns
+mod Choices

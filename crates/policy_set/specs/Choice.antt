@@ -2,7 +2,7 @@
 use mathlib.Core.Path.{_≡_}
 use mathlib.Core.List.{List, [], _∷_, _++_}
 use mathlib.Core.Bool.{Bool, cond, not, _||_}
-use Prim.Native.Nat.{ℕ, zero, suc, _+_, _-_, _<_}
+use Prim.Native.Nat.{ℕ, zero, suc, _+_, _-_, _≤_, _<_}
 use lib.Chars.{codes}
 use lib.Dec.{ltb}
 use lib.ListN.{length, getD}
@@ -38,6 +38,12 @@ attempt texts fresh c = record {
   fresh = fresh + one-if (not (isSome (number-of (candidate c) texts)));
 }
 
+-- A try leaves at most one new text more.
+pub record Next (fresh : ℕ) (t : Try) : Type 0 where
+  pub low : fresh ≤ t .fresh
+  pub high : t .fresh ≤ fresh + 1
+  pub past : 1 ≤ t .counter
+
 -- The first try from the counter c on whose number is not taken, of so many.
 abbrev pub first-free : List (List ℕ) → (ℕ → Bool) → ℕ → ℕ → ℕ → Option Try
 first-free texts taken zero fresh c = None
@@ -60,6 +66,11 @@ choose texts taken limit fresh c (i ∷ is) =
       | None ↦ None
       | Some t ↦ after-these (pair i (t .name) ∷ []) (choose texts taken limit (t .fresh) (t .counter) is)
     ]
+
+-- The pairs, where every id got a new one.
+abbrev pub told : Option ℕ → List Renaming → Option (List Renaming)
+told (Some fresh) ps = Some ps
+told None ps = None
 
 -- The counter of a try whose text is new.
 abbrev pub new-text : ℕ → Try → List ℕ
