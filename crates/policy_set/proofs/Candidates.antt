@@ -10,7 +10,7 @@ use lib.Chars.{codes}
 use lib.ListN.{length, take, drop, set}
 use Rattle.std.specs.Written.{decimal}
 use Rattle.std.proofs.shelf.Tests.{cases-eq}
-use Rattle.std.proofs.shelf.Lists.{drop-at, drop-drop, drop-set, length-take-le}
+use Rattle.std.proofs.shelf.Lists.{drop-at, drop-drop, drop-set, length-take-le, length-drop, take-rest}
 use Rattle.std.proofs.shelf.Decimals.{decimal-digit, decimal-step, same-from-decimal, length-decimal-le}
 use Rattle.policy_set.specs.Choice.{candidate}
 
@@ -53,3 +53,10 @@ prefixed counter digits text word h l e w =
     drop-at (take (digits - 6) text) (word ++ drop (digits - (digits - 6)) (drop (digits - 6) text)) (digits - 6) (length-take-le (digits - 6) text (omega arith))
     ∙ (ap (λ (xs : List ℕ). word ++ xs) (drop-drop (digits - (digits - 6)) (digits - 6) text ∙ (ap (λ j. drop j text) z ∙ e))
     ∙ ap (λ (xs : List ℕ). xs ++ decimal counter) w)
+
+-- the text that was written, as a slice to the end
+pub written : (counter start : ℕ) (text : List ℕ) → length text ≡ 16 → drop start text ≡ candidate counter → take (16 - start) (drop start text) ≡ candidate counter
+written counter start text l e = ap (λ m. take (m - start) (drop start text)) (sym l) ∙ (take-rest text start ∙ e)
+
+pub written-length : (counter start : ℕ) (text : List ℕ) → length text ≡ 16 → drop start text ≡ candidate counter → 16 - start ≡ length (candidate counter)
+written-length counter start text l e = ap (λ m. m - start) (sym l) ∙ (sym (length-drop start text) ∙ ap length e)
