@@ -13,3 +13,4 @@ pub mod Merge
 pub mod MergeLaw
 pub mod Tally
 pub mod Choice
+pub mod MergeCall

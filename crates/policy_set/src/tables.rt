@@ -10,6 +10,7 @@ use crate::rows::Member;
 use crate::rows::PolicyRow;
 
 pub(crate) mod calls;
+pub(crate) mod puts;
 
 // The first `used` places hold the rows.
 #[derive(Drop)]
