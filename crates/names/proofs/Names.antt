@@ -100,7 +100,7 @@ distinct-one-to-one (t ∷ ts) d (suc m) zero h k e =
 distinct-one-to-one (t ∷ ts) d (suc m) (suc n) h k e =
     ap suc (distinct-one-to-one ts (apart-split (number-of t ts) (distinct ts) d .1) m n (omega arith) (omega arith) e)
 
-number-append : (text : List ℕ) (texts : List (List ℕ)) (new : List ℕ) → number-of text texts ≡ None → (new ≡ text → ⊥)
+pub number-append : (text : List ℕ) (texts : List (List ℕ)) (new : List ℕ) → number-of text texts ≡ None → (new ≡ text → ⊥)
     → number-of text (texts ++ (new ∷ [])) ≡ None
 number-append text [] new e no-way =
     ap (λ (b : Bool). cond b (Some 0) None) (not-same new text no-way)

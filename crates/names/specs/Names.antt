@@ -43,6 +43,10 @@ bytes-in (t ∷ ts) = length t + bytes-in ts
 abbrev pub fits : Limits → List (List ℕ) → List ℕ → Bool
 fits limits texts text = ltb (length texts) (limits .places) && leb (bytes-in texts + length text) (limits .room)
 
+-- Whether so many texts more, of so many bytes together, keep within the limits.
+abbrev pub room-for : Limits → List (List ℕ) → ℕ → ℕ → Bool
+room-for limits texts count bytes = leb (length texts + count) (limits .places) && leb (bytes-in texts + bytes) (limits .room)
+
 -- A text that is not there gets the next number, or refusal 4.
 abbrev pub enter-answer : Limits → List (List ℕ) → List ℕ → Result ℕ Refusal
 enter-answer limits texts text = cond (fits limits texts text) (Ok (length texts)) (Err BookFull)

@@ -8,7 +8,7 @@ ghost use Rattle.std.specs.Options.{Cases as BySome};
 ghost use Rattle.std.specs.declared.option.Option.the-variants.{None as Absent};
 ghost use Rattle.names.specs.Pieces.{start-of};
 ghost use Rattle.names.specs.Book.{texts as texts-of, limits as limits-of};
-ghost use Rattle.names.specs.Names.{number-of, name-answer, name-after, text-answer, fits, One-to-one, Naming, Told};
+ghost use Rattle.names.specs.Names.{number-of, name-answer, name-after, text-answer, fits, room-for, One-to-one, Naming, Told};
 ghost use Rattle.names.specs.Lent.{lent};
 ghost use Rattle.names.specs.TypeName.{TypeName, IsAction};
 use crate::kept::NameBook;
@@ -77,7 +77,7 @@ impl NameBook {
     }
 
     // The number of a text that is there.
-    fn find(&self, text: &[u8]) -> Option<usize>
+    pub fn find(&self, text: &[u8]) -> Option<usize>
         ensures { λ r. ⌜ r ≡ number-of (now (text .entry)) (texts-of (now (self .entry))) ⌝ }
     {
         for n in 0..self.ends.len() {
@@ -96,6 +96,16 @@ impl NameBook {
             return false;
         }
         text.len() <= self.room - self.bytes.len()
+    }
+
+    // Whether so many names more, of so many bytes together, keep within the limits.
+    pub fn has_room_for(&self, names: usize, bytes: usize) -> bool
+        ensures { λ r. ⌜ r ≡ room-for (limits-of (now (self .entry))) (texts-of (now (self .entry))) names bytes ⌝ }
+    {
+        if names > self.places - self.ends.len() {
+            return false;
+        }
+        bytes <= self.room - self.bytes.len()
     }
 
     // Puts a text that is not there, and for which there is room, behind the last.

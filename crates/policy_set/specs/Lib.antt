@@ -9,3 +9,8 @@ pub mod Validation
 pub mod Handed
 pub mod Held
 pub mod Meaning
+pub mod Merge
+pub mod MergeLaw
+pub mod Tally
+pub mod Choice
+pub mod MergeCall

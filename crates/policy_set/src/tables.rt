@@ -9,6 +9,7 @@ use crate::rows::PolicyRow;
 use policy::template::Template;
 
 pub(crate) mod calls;
+pub(crate) mod puts;
 
 // The first `used` places hold the rows.
 #[derive(Drop)]
