@@ -2,6 +2,7 @@
 use crate::actions::ActionWord;
 use crate::actions::action;
 use crate::args::Args;
+use crate::print::push_word;
 use crate::stop::Stop;
 use crate::stop::StopFromAllocError;
 use crate::stop::StopFromRefusal;
@@ -94,17 +95,15 @@ fn scope_of(action: &ActionWord) -> ActionScope<'_> {
     }
 }
 
-// A type's text keeps its colons.
-fn type_text(heap: Global, book: &NameBook, number: NameNumber) -> Result<String, AllocError> {
+// The text of a name as it is printed; a type keeps its colons.
+fn name_text(
+    heap: Global,
+    book: &NameBook,
+    number: NameNumber,
+    colon: Colon,
+) -> Result<String, AllocError> {
     match book.text(number) {
-        Ok(text) => encode(heap, text, Colon::Plain),
-        Err(unknown) => unknown.number.to_string(heap),
-    }
-}
-
-fn id_text(heap: Global, book: &NameBook, number: NameNumber) -> Result<String, AllocError> {
-    match book.text(number) {
-        Ok(text) => encode(heap, text, Colon::Coded),
+        Ok(text) => encode(heap, text, colon),
         Err(unknown) => unknown.number.to_string(heap),
     }
 }
@@ -125,12 +124,12 @@ fn node_text(heap: Global, book: &NameBook, node: ConditionNode) -> Result<Strin
         ConditionNode::Set(count) => return format!(heap, "set:{count}"),
         ConditionNode::Clause(number) => return format!(heap, "clause:{number}"),
         ConditionNode::Is(ty) => {
-            let ty = type_text(heap, book, ty)?;
+            let ty = name_text(heap, book, ty, Colon::Plain)?;
             return format!(heap, "is:{ty}");
         }
         ConditionNode::Entity(e) => {
-            let ty = type_text(heap, book, e.ty)?;
-            let eid = id_text(heap, book, e.eid)?;
+            let ty = name_text(heap, book, e.ty, Colon::Plain)?;
+            let eid = name_text(heap, book, e.eid, Colon::Coded)?;
             return format!(heap, "entity:{ty}/{eid}");
         }
     };
@@ -147,8 +146,7 @@ fn nodes_text(
     let mut line = format!(heap, "ok {count}")?;
     for node in nodes.iter().take(count) {
         let node = node_text(heap, book, *node)?;
-        line.push_str(" ")?;
-        line.push_str(node.as_str())?;
+        push_word(&mut line, node.as_str())?;
     }
     Ok(line)
 }
