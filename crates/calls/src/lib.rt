@@ -1,3 +1,5 @@
+#![tactic(auto)]
+
 // Calls on two policy sets, one at a time or in lists.
 pub mod answer;
 pub mod call;

@@ -1,3 +1,5 @@
+#![tactic(auto)]
+
 pub mod book;
 pub mod naming;
 mod pieces;

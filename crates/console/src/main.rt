@@ -1,3 +1,5 @@
+#![tactic(auto)]
+
 // Reads a script of calls from standard input and prints the answers.
 mod actions;
 mod args;

@@ -1,3 +1,5 @@
+#![tactic(auto)]
+
 pub mod book;
 pub mod entity;
 pub mod kept;

@@ -1,3 +1,5 @@
+#![tactic(auto)]
+
 pub mod action;
 pub mod binding;
 pub mod bound;

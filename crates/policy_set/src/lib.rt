@@ -1,3 +1,5 @@
+#![tactic(auto)]
+
 // Policy sets: templates, links of them and static policies.
 pub mod edges;
 pub(crate) mod keyed;

@@ -1,3 +1,5 @@
+#![tactic(auto)]
+
 pub mod number;
 pub mod refusal;
 pub mod slots;

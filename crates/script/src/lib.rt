@@ -1,3 +1,5 @@
+#![tactic(auto)]
+
 pub mod decode;
 pub mod encode;
 pub mod number;
