@@ -20,5 +20,5 @@ returns c =
     let e : scanned Start c.args.text.now ≡ c.loop-byte.scan =
     sym c.loop-byte.invariant ∙ at_drop_all (scanned c.loop-byte.scan) c.args.text.now c.loop-byte.byte-index le in
     let d = scan_decides c.args.text.now in
-    let r = c.is-inside.ensures ∙ ap accepts (sym e) in
+    let r = c.is_inside.ensures ∙ ap accepts (sym e) in
     (λ h. d.0 (sym r ∙ h), λ h. r ∙ d.1 h)

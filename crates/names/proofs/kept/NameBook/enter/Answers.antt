@@ -17,10 +17,10 @@ reserved b text h =
 pub unreachable-requires : goal.unreachable-requires
 unreachable-requires c =
     let r = reserved c.args.self.now c.args.text.now c.requires.room in
-    omega (arith, r.1, c.in-default.ensures.cases, c.args.self.now.room_reserved)
+    omega (arith, r.1, c.in_default.ensures.full, c.args.self.now.room_reserved)
 
-pub push-reserved-requires : goal.push-reserved-requires
-push-reserved-requires c =
+pub push_reserved-requires : goal.push_reserved-requires
+push_reserved-requires c =
     let r = reserved c.args.self.now c.args.text.now c.requires.room in
     omega (arith, r.0, c.args.self.now.places_reserved)
 
@@ -32,42 +32,29 @@ grown b text ends bytes end total e f g h =
     ∙ ap (λ (l : List ℕ). pieces 0 (vec_items b.ends ++ (end ∷ [])) l) f
     ∙ pieces_grown (vec_items b.ends) (vec_items b.bytes) text (vec_len b.bytes) end b.bytes.ok.0 b.rising (g ∙ h)
 
-pub invariant-of-self : goal.invariant-of-self
-invariant-of-self c =
+pub invariant_of-self : goal.invariant_of-self
+invariant_of-self c =
     let b = c.in-Ok.ensures in
     let r = reserved c.args.self.now c.args.text.now c.requires.room in
-    let up : vec_len c.args.self.now.bytes ≤ c.len-end.result = omega (arith, b.len, c.len-end.ensures) in (
-      ap (λ (l : List ℕ). rising 0 l (vec_len c.extend-from-slice.new.self)) c.push-reserved.ensures.items
+    let up : vec_len c.args.self.now.bytes ≤ c.len-end.result = omega (arith, b.len, c.len-end.ensures) in
+    record {
+      rising =
+          ap (λ (l : List ℕ). rising 0 l (vec_len c.extend_from_slice.new.self)) c.push_reserved.ensures.items
           ∙ ap (λ (n : ℕ). rising 0 (vec_items c.args.self.now.ends ++ (c.len-end.result ∷ [])) n) (sym c.len-end.ensures)
-          ∙ rising_more 0 (vec_items c.args.self.now.ends) (vec_len c.args.self.now.bytes) c.len-end.result c.args.self.now.rising up,
-      (
-        ap distinct (grown c.args.self.now c.args.text.now _ _ _ _ c.push-reserved.ensures.items b.items c.len-end.ensures b.len) ∙ distinct_more (texts c.args.self.now) c.args.text.now c.args.self.now.distinct c.requires.absent,
-        (
-          omega (arith, r.0, c.push-reserved.ensures.len),
-          (
-            omega (arith, r.1, b.len),
-            (
-              c.args.self.now.most_places,
-              (
-                c.args.self.now.most_room,
-                (
-                  omega (arith, c.args.self.now.places_reserved, c.push-reserved.ensures.capacity),
-                  (
-                    omega (arith, c.args.self.now.room_reserved, b.capacity),
-                    tt,
-                  ),
-                ),
-              ),
-            ),
-          ),
-        ),
-      ),
-    )
+          ∙ rising_more 0 (vec_items c.args.self.now.ends) (vec_len c.args.self.now.bytes) c.len-end.result c.args.self.now.rising up;
+      distinct = ap distinct (grown c.args.self.now c.args.text.now _ _ _ _ c.push_reserved.ensures.items b.items c.len-end.ensures b.len) ∙ distinct_more (texts c.args.self.now) c.args.text.now c.args.self.now.distinct c.requires.absent;
+      few = omega (arith, r.0, c.push_reserved.ensures.len);
+      short = omega (arith, r.1, b.len);
+      most_places = c.args.self.now.most_places;
+      most_room = c.args.self.now.most_room;
+      places_reserved = omega (arith, c.args.self.now.places_reserved, c.push_reserved.ensures.capacity);
+      room_reserved = omega (arith, c.args.self.now.room_reserved, b.capacity);
+    }
 
 pub returns : goal.returns
 returns c =
     let b = c.in-Ok.ensures in
     record {
-      texts = grown c.args.self.now c.args.text.now _ _ _ _ c.push-reserved.ensures.items b.items c.len-end.ensures b.len;
+      texts = grown c.args.self.now c.args.text.now _ _ _ _ c.push_reserved.ensures.items b.items c.len-end.ensures b.len;
       limits = refl;
     }

@@ -11,8 +11,8 @@ returns-then-text-gt-LONGEST c =
     let w = owed_long (limits c.args.self.now) (texts c.args.self.now) c.args.text.now c.args.self.now.distinct c.if-text-gt-LONGEST.true in
     record { answer = w.answers; after = w.leaves; limits = refl; laws = w.laws }
 
-pub overflow-cast-result : goal.overflow-cast-result
-overflow-cast-result c =
+pub overflow_cast-result : goal.overflow_cast-result
+overflow_cast-result c =
     let n = number_reads c.args.text.now (texts c.args.self.now) c.in-Some.n (sym c.in-Some.ensures) in
     let l = length-pieces 0 (vec_items c.args.self.now.ends) (vec_items c.args.self.now.bytes) in
     omega (arith, n.0, l, c.args.self.now.ends.ok.0, c.args.self.now.few, c.args.self.now.most_places)
@@ -23,17 +23,17 @@ returns-in-Some c =
     c.if-text-gt-LONGEST.false (sym c.in-Some.ensures) in
     record { answer = w.answers; after = w.leaves; limits = refl; laws = w.laws }
 
-pub returns-then-not-has-room : goal.returns-then-not-has-room
-returns-then-not-has-room c =
+pub returns-then-not-has_room : goal.returns-then-not-has_room
+returns-then-not-has_room c =
     let w = owed_full (limits c.args.self.now) (texts c.args.self.now) c.args.text.now c.args.self.now.distinct
-    c.if-text-gt-LONGEST.false (sym c.in-default.ensures) (sym c.has-room.ensures ∙ c.if-not-has-room.true) in
+    c.if-text-gt-LONGEST.false (sym c.in_default.ensures) (sym c.has_room.ensures ∙ c.if-not-has_room.true) in
     record { answer = w.answers; after = w.leaves; limits = refl; laws = w.laws }
 
 pub returns : goal.returns
 returns c =
     let l = length-pieces 0 (vec_items c.args.self.now.ends) (vec_items c.args.self.now.bytes) in
     let w = owed_entered (limits c.args.self.now) (texts c.args.self.now) (texts c.enter.new.self) c.args.text.now
-    c.len-number.result c.args.self.now.distinct c.if-text-gt-LONGEST.false (sym c.in-default.ensures)
-    (sym c.has-room.ensures ∙ c.if-not-has-room.false)
+    c.len-number.result c.args.self.now.distinct c.if-text-gt-LONGEST.false (sym c.in_default.ensures)
+    (sym c.has_room.ensures ∙ c.if-not-has_room.false)
     (omega (arith, l, c.len-number.ensures, c.args.self.now.ends.ok.0)) c.enter.ensures.texts in
     record { answer = w.answers; after = w.leaves; limits = c.enter.ensures.limits; laws = w.laws }

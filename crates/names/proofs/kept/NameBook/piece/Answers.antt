@@ -13,18 +13,18 @@ range ends total len n end start r l h e s =
     let g = get_or_read ends n end lt e 0 in
     (omega (arith, w.0), omega (arith, w.1))
 
-pub slice-bounds-result-count : goal.slice-bounds-result-count
-slice-bounds-result-count c =
+pub slice_bounds-result-count : goal.slice_bounds-result-count
+slice_bounds-result-count c =
     (range _ _ _ _ _ _ c.args.self.now.rising c.args.self.now.ends.ok.0 c.requires c.index-end.ensures c.start-start.ensures).0
 
-pub slice-bounds-result-start : goal.slice-bounds-result-start
-slice-bounds-result-start c =
+pub slice_bounds-result-start : goal.slice_bounds-result-start
+slice_bounds-result-start c =
     (range _ _ _ _ _ _ c.args.self.now.rising c.args.self.now.ends.ok.0 c.requires c.index-end.ensures c.start-start.ensures).0
 
-pub slice-bounds-result-end : goal.slice-bounds-result-end
-slice-bounds-result-end c =
+pub slice_bounds-result-end : goal.slice_bounds-result-end
+slice_bounds-result-end c =
     let r = range _ _ _ _ _ _ c.args.self.now.rising c.args.self.now.ends.ok.0 c.requires c.index-end.ensures c.start-start.ensures in
-    omega (arith, r.1, c.as-slice.ensures.len)
+    omega (arith, r.1, c.as_slice.ensures.len)
 
 pub returns : goal.returns
 returns c =
@@ -32,5 +32,5 @@ returns c =
     let e = get_or_read (vec_items c.args.self.now.ends) c.args.n c.index-end.result.now lt c.index-end.ensures 0 in
     let k = piece_at 0 (vec_items c.args.self.now.ends) (vec_items c.args.self.now.bytes) c.args.n lt in
     let s = c.start-start.ensures in
-    let v = c.as-slice.ensures.value in
+    let v = c.as_slice.ensures.value in
     cc
