@@ -1,16 +1,9 @@
 -- The nodes of a clause's tree.
 use Rattle.std.specs.Prelude.{◌≡◌, ℕ, Bool, false, ◌||◌, List, [], ◌∷◌, Some, None, Option}
-use Rattle.std.specs.Cmp.Derive.{on-equal, variant-equal, point-equal, void-equal, bare-equal, booleans-equal, also, last}
-use Rattle.std.specs.Cmp.{IsEquivalence, nat_eq_equiv}
-use Rattle.std.specs.Cmp.Lexicographic.{each}
+use Rattle.std.specs.Cmp.Lexicographic.{pointwise}
 use Rattle.std.specs.List.{slice_get}
 use Rattle.refusals.specs.declared.slots.SlotId.{SlotId}
 use Rattle.refusals.specs.declared.slots.SlotId.TheVariants.{Principal, Resource}
-use Rattle.refusals.specs.contracts.slots.SlotId as slot
-use Rattle.names.specs.contracts.entity.EntityUIDPartialEq.TheImpl as entity
-use Rattle.names.specs.declared.entity.EntityUID.{EntityUID}
-use Rattle.clauses.specs.contracts.tree.node.Var as var
-use Rattle.clauses.specs.contracts.tree.node.Node.{as_values}
 use Rattle.clauses.specs.contracts.tree.node.NodePartialEq.TheImpl as derived
 use Rattle.clauses.specs.declared.tree.node.Node.{Node}
 use Rattle.clauses.specs.declared.tree.node.Node.TheVariants as node
@@ -69,33 +62,13 @@ node_constant node.Eq = None
 node_constant node.In = None
 node_constant (node.Is t) = None
 
--- What `==` answers on entities.
-abbrev pub entity_equal : IsEquivalence (entity.ghosts).equals
-entity_equal = on-equal (λ (e : EntityUID). (e.ty, e.eid)) (also nat_eq_equiv (last nat_eq_equiv))
-
--- What `==` answers on nodes, variant by variant.
-abbrev pub node_equal : IsEquivalence (derived.ghosts).equals
-node_equal =
-    on-equal as_values
-    (variant-equal (on-equal (λ x. x.0) booleans-equal)
-    (variant-equal (on-equal (λ x. x.0) (bare-equal var.enum tt))
-    (variant-equal (on-equal (λ x. x.0) (bare-equal slot.enum tt))
-    (variant-equal (on-equal (λ x. x.0) entity_equal)
-    (variant-equal point-equal
-    (variant-equal point-equal
-    (variant-equal point-equal
-    (variant-equal point-equal
-    (variant-equal point-equal
-    (variant-equal (on-equal (λ x. x.0) nat_eq_equiv)
-    void-equal))))))))))
-
--- Whether two nodes are equal.
+-- Whether two nodes are equal: what `==` answers.
 abbrev pub same_node : Node → Node → Bool
-same_node = node_equal.same
+same_node = (derived.ghosts).eq
 
 -- Whether two lists of nodes are equal.
 abbrev pub same_nodes : List Node → List Node → Bool
-same_nodes = each node_equal
+same_nodes = pointwise same_node
 
 -- The slots of a node.
 abbrev pub node_slots : Node → ℕ

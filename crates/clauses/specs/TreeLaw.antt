@@ -1,27 +1,23 @@
 -- The law of a tree book.
 use Rattle.std.specs.Prelude.{◌≡◌, ℕ, Bool, true, false, ◌&&◌, List, [], ◌∷◌, Some, None, refl}
 use Rattle.std.proofs.Common.{sym, ◌∙◌, ap, subst, arith}
-use Rattle.std.specs.Cmp.Lexicographic.{each, each-itself}
+use Rattle.std.proofs.lemmas.Slice.Eq.{slice_eq-Decides}
 use Rattle.std.proofs.lemmas.Bool.{and_parts}
 use Rattle.refusals.specs.declared.slots.SlotId.TheVariants.{Principal, Resource}
 use Rattle.clauses.specs.declared.tree.node.Node.{Node}
 use Rattle.clauses.specs.declared.tree.node.Node.TheVariants as node
-use Rattle.clauses.specs.Book.{Decides, Lawful, listing}
-use Rattle.clauses.specs.Nodes.{node_equal, same_node, same_nodes, node_constant, node_slots, mentions, tree_slots, tree_constant, tree_clause}
+use Rattle.std.specs.Bool.{Decides}
+use Rattle.clauses.specs.Book.{Decides as Comparing, Lawful, listing}
+use Rattle.clauses.specs.Nodes.{same_node, same_nodes, node_constant, node_slots, mentions, tree_slots, tree_constant, tree_clause}
 use Rattle.clauses.specs.Listing.{lawful_by}
 use Rattle.clauses.specs.NodeEquals.{node_decides}
 use Rattle.clauses.specs.SlotSets.{set_small}
 
-same_only : (s t : List Node) → same_nodes s t ≡ true → s ≡ t
-same_only [] [] h = refl
-same_only [] (n ∷ t) h = let z : ◌≡◌ {A = ℕ} 0 1 = cc in absurd (omega arith)
-same_only (m ∷ s) [] h = let z : ◌≡◌ {A = ℕ} 0 1 = cc in absurd (omega arith)
-same_only (m ∷ s) (n ∷ t) h =
-    let w = and_parts (same_node m n) (same_nodes s t) h in
-    ap (λ (x : Node). x ∷ s) (node_decides.only m n w.0) ∙ ap (λ (l : List Node). n ∷ l) (same_only s t w.1)
+trees : (s t : List Node) → Decides (same_nodes s t) (s ≡ t)
+trees s t = slice_eq-Decides (λ m n. (node_decides.only m n, node_decides.whenever m n)) s t (same_nodes s t) refl
 
-pub trees_decide : Decides same_nodes
-trees_decide = record { only = same_only; whenever = λ s t e. subst (λ (l : List Node). same_nodes s l ≡ true) e (each-itself node_equal s) }
+pub trees_decide : Comparing same_nodes
+trees_decide = record { only = λ s t. (trees s t).0; whenever = λ s t. (trees s t).1 }
 
 -- A lone literal has no slot.
 lone_slotless : (n : Node) (v : Bool) → node_constant n ≡ Some v → tree_slots (n ∷ []) ≡ 0

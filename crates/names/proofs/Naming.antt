@@ -1,8 +1,8 @@
 -- The laws of naming a text, over the list of texts.
-use Rattle.std.proofs.Common.{◌≡◌, ℕ, zero, suc, ◌+◌, ◌-◌, ◌<◌, ◌≤◌, Bool, true, false, cond, ◌&&◌, ltb, leb, List, [], ◌∷◌, ◌++◌, length, get_or, Some, None, Ok, Err, Option, Result, sym, refl, ap, ◌∙◌, subst, arith, length-append, le-ltb, lt-ltb}
+use Rattle.std.proofs.Common.{◌≡◌, ℕ, zero, suc, ◌+◌, ◌<◌, ◌≤◌, Bool, true, false, cond, ltb, List, [], ◌∷◌, ◌++◌, length, get_or, Some, None, Ok, Err, Option, Result, sym, refl, ap, ◌∙◌, subst, arith, length-append, le-ltb, lt-ltb}
 use Rattle.refusals.specs.declared.refusal.Refusal.{Refusal}
 use Rattle.refusals.specs.declared.refusal.Refusal.TheVariants.{TooLong, BookFull}
-use Rattle.names.specs.Names.{Limits, number_of, distinct, fits, found_or, enter_answer, name_answer, with_new, name_after, OneToOne, Naming}
+use Rattle.names.specs.Names.{Limits, number_of, distinct, fits, found_or, name_answer, with_new, name_after, Naming}
 use Rattle.names.proofs.Names.{number_reads, distinct_one_to_one, distinct_more}
 
 -- What is owed of the texts afterwards.

@@ -1,5 +1,5 @@
 -- Which part of the whole list is the piece of a number, and one piece more.
-use Rattle.std.proofs.Common.{◌≡◌, ℕ, zero, suc, ◌+◌, ◌-◌, ◌<◌, ◌≤◌, true, ◌&&◌, eqb, leb, List, [], ◌∷◌, ◌++◌, length, get_or, take, drop, sym, refl, ap, ◌∙◌, subst, arith, length-drop, take_all, eq-eqb, eqb-true, le-leb, leb-true}
+use Rattle.std.proofs.Common.{◌≡◌, ℕ, zero, suc, ◌+◌, ◌-◌, ◌<◌, ◌≤◌, true, eqb, leb, List, [], ◌∷◌, ◌++◌, length, get_or, take, drop, sym, refl, ap, ◌∙◌, subst, arith, length-drop, take_all, eq-eqb, eqb-true, le-leb, leb-true}
 use lib.Seq.{drop-append_seam, drop-append-le, take-append-le}
 use Rattle.names.specs.Pieces.{pieces, rising, start_of}
 use Rattle.names.proofs.Bools.{and_true, and_made}

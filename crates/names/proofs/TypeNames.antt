@@ -1,5 +1,5 @@
 -- The scan accepts exactly the type names.
-use Rattle.std.proofs.Common.{◌≡◌, ℕ, Bool, true, false, cond, ◌&&◌, ◌||◌, eqb, List, [], ◌∷◌, ◌++◌, Decides, sym, refl, ap, ◌∙◌, subst, eqb-true}
+use Rattle.std.proofs.Common.{◌≡◌, ℕ, Bool, true, false, cond, eqb, List, [], ◌∷◌, ◌++◌, Decides, sym, refl, ap, ◌∙◌, eqb-true}
 use borrow.Author.Tests.{clash}
 use Rattle.names.specs.declared.type_name.Scan.{Scan}
 use Rattle.names.specs.declared.type_name.Scan.TheVariants.{Start, Inside, Colon, Broken}

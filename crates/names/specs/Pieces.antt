@@ -1,5 +1,5 @@
 -- Lists kept end to end in one list, each up to its end.
-use Rattle.std.specs.Prelude.{ℕ, zero, suc, ◌-◌, Bool, ◌&&◌, List, [], ◌∷◌, ◌==◌, nat_le, slice_index, slice_range}
+use Rattle.std.specs.Prelude.{ℕ, zero, suc, Bool, ◌&&◌, List, [], ◌∷◌, ◌==◌, nat_le, slice_index, slice_range}
 
 -- The pieces from a start on, by their ends.
 abbrev pub pieces : {X : Type 0} → ℕ → List ℕ → List X → List (List X)

@@ -10,23 +10,23 @@ use Rattle.names.proofs.TypeNames.{scan_decides}
 use Rattle.clauses.proofs.Checks.{type_told}
 use Rattle.clauses.proofs.naming.check_type.Goals as goal
 
-pub returns-then-unwrap-or : goal.returns-then-unwrap-or
-returns-then-unwrap-or c =
+pub returns-then-unwrap_or : goal.returns-then-unwrap_or
+returns-then-unwrap_or c =
     let text = get_or (texts c.args.names.now) c.args.name [] in
     let h =
-    sym (type_told (texts c.args.names.now) c.args.name c.is-type-name.result c.is-type-name.ensures)
-    ∙ sym c.unwrap-or.ensures ∙ c.if-unwrap-or.true in
+    sym (type_told (texts c.args.names.now) c.args.name c.is_type_name.result c.is_type_name.ensures)
+    ∙ sym c.unwrap_or.ensures ∙ c.if-unwrap_or.true in
     record {
       answer = sym (cond-true (accepts (scanned Start text)) (Ok tt) (Err (BadTypeName c.args.name)) h);
       typed = (λ _. (scan_decides text).0 h, λ _. refl);
     }
 
-pub returns-else-unwrap-or : goal.returns-else-unwrap-or
-returns-else-unwrap-or c =
+pub returns-else-unwrap_or : goal.returns-else-unwrap_or
+returns-else-unwrap_or c =
     let text = get_or (texts c.args.names.now) c.args.name [] in
     let h =
-    sym (type_told (texts c.args.names.now) c.args.name c.is-type-name.result c.is-type-name.ensures)
-    ∙ sym c.unwrap-or.ensures ∙ c.if-unwrap-or.false in
+    sym (type_told (texts c.args.names.now) c.args.name c.is_type_name.result c.is_type_name.ensures)
+    ∙ sym c.unwrap_or.ensures ∙ c.if-unwrap_or.false in
     record {
       answer = sym (cond-false (accepts (scanned Start text)) (Ok tt) (Err (BadTypeName c.args.name)) h);
       typed = (λ e. absurd (clash e), λ t. absurd (not_from_Decides (accepts (scanned Start text)) (scan_decides text) h t));

@@ -1,4 +1,4 @@
-use Rattle.std.proofs.Common.{◌≡◌, ◌⊎◌, List, ◌∷◌, ◌++◌, codes, sym, refl, ◌∙◌, inl, inr}
+use Rattle.std.proofs.Common.{codes, sym, refl, ◌∙◌, inl, inr}
 use borrow.Author.Tests.{clash}
 use Rattle.std.proofs.lemmas.Slice.Eq.{ends_is}
 use Rattle.names.proofs.text.is_action_type.Goals as goal

@@ -6,8 +6,8 @@ use Rattle.clauses.proofs.sealed.text.slots_of_text.Goals as goal
 pub loop-rest-preserved : goal.loop-rest-preserved
 loop-rest-preserved c =
     let some : 0 < length c.loop-rest.rest.now = search rules in
-    again c.loop-rest.bits c.slots-seen-bits.result.bits c.loop-rest.scanner c.step.new.self c.loop-rest.rest.now c.args.text.now
-    c.loop-rest.invariant.0 some c.loop-rest.invariant.1 c.slots-seen-bits.ensures c.step.ensures
+    again c.loop-rest.bits c.slots_seen-bits.result.bits c.loop-rest.scanner c.step.new.self c.loop-rest.rest.now c.args.text.now
+    c.loop-rest.invariant.0 some c.loop-rest.invariant.1 c.slots_seen-bits.ensures c.step.ensures
 
 pub returns : goal.returns
 returns c =

@@ -11,17 +11,17 @@ use Rattle.clauses.specs.TreeEntering.{names_in}
 use Rattle.clauses.proofs.Checks.{stops, goes_on}
 use Rattle.clauses.proofs.tree.names.check_all_names.Goals as goal
 
-pub returns-in-err-check-names : goal.returns-in-err-check-names
-returns-in-err-check-names c =
-    let p = err_from_is_err_and c.from-residual.result c.from-residual.ensures.1 in
+pub returns-in_err-check_names : goal.returns-in_err-check_names
+returns-in_err-check_names c =
+    let p = err_from_is_err_and c.from_residual.result c.from_residual.ensures.1 in
     p.1 ∙ ap Err p.2
-    ∙ stops (name_check (length (texts c.args.names.now))) node_names c.args.nodes.now c.loop-node.node-index (Lit false) c.in-err-check-names.field-0.0
-    c.loop-node-test.true c.in-err-check-names.ensures c.loop-node.invariant
+    ∙ stops (name_check (length (texts c.args.names.now))) node_names c.args.nodes.now c.loop-node.node-index (Lit false) c.in_err-check_names.field-0.0
+    c.loop-node-test.true c.in_err-check_names.ensures c.loop-node.invariant
 
 pub loop-node-preserved : goal.loop-node-preserved
 loop-node-preserved c =
     goes_on (name_check (length (texts c.args.names.now))) node_names c.args.nodes.now c.loop-node.node-index (Lit false)
-    c.loop-node-test.true c.in-ok-check-names.ensures c.loop-node.invariant
+    c.loop-node-test.true c.in_ok-check_names.ensures c.loop-node.invariant
 
 pub returns : goal.returns
 returns c =

@@ -11,17 +11,17 @@ use Rattle.clauses.specs.TreeEntering.{types_in}
 use Rattle.clauses.proofs.Checks.{stops, goes_on}
 use Rattle.clauses.proofs.tree.names.check_all_types.Goals as goal
 
-pub returns-in-err-check-types : goal.returns-in-err-check-types
-returns-in-err-check-types c =
-    let p = err_from_is_err_and c.from-residual.result c.from-residual.ensures.1 in
+pub returns-in_err-check_types : goal.returns-in_err-check_types
+returns-in_err-check_types c =
+    let p = err_from_is_err_and c.from_residual.result c.from_residual.ensures.1 in
     p.1 ∙ ap Err p.2
-    ∙ stops (type_check (texts c.args.names.now)) node_types c.args.nodes.now c.loop-node.node-index (Lit false) c.in-err-check-types.field-0.0
-    c.loop-node-test.true c.in-err-check-types.ensures c.loop-node.invariant
+    ∙ stops (type_check (texts c.args.names.now)) node_types c.args.nodes.now c.loop-node.node-index (Lit false) c.in_err-check_types.field-0.0
+    c.loop-node-test.true c.in_err-check_types.ensures c.loop-node.invariant
 
 pub loop-node-preserved : goal.loop-node-preserved
 loop-node-preserved c =
     goes_on (type_check (texts c.args.names.now)) node_types c.args.nodes.now c.loop-node.node-index (Lit false)
-    c.loop-node-test.true c.in-ok-check-types.ensures c.loop-node.invariant
+    c.loop-node-test.true c.in_ok-check_types.ensures c.loop-node.invariant
 
 pub returns : goal.returns
 returns c =

@@ -1,4 +1,4 @@
-use Rattle.std.proofs.Common.{◌≡◌, ◌<◌, ◌≤◌, [], length, vec_items, sym, ◌∙◌, arith, below_more}
+use Rattle.std.proofs.Common.{◌<◌, length, vec_items, sym, ◌∙◌, arith, below_more}
 use borrow.Author.Tests.{clash}
 use Rattle.names.specs.Book.{texts}
 use Rattle.names.proofs.Pieces.{length-pieces}

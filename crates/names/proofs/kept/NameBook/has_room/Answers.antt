@@ -1,6 +1,6 @@
 use Rattle.names.proofs.Names.{no_place, by_bytes}
 use Rattle.names.proofs.kept.NameBook.has_room.Goals as goal
-use Rattle.std.proofs.Common.{ℕ, ◌-◌, leb, length, vec_items, vec_len, sym, ap, ◌∙◌, arith}
+use Rattle.std.proofs.Common.{ℕ, ◌-◌, leb, length, vec_items, vec_len, ap, ◌∙◌, arith}
 
 pub returns-then-len-self : goal.returns-then-len-self
 returns-then-len-self c =

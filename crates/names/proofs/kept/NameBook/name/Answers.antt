@@ -1,5 +1,4 @@
-use Rattle.std.proofs.Common.{◌≡◌, ◌<◌, ◌≤◌, true, false, length, vec_items, sym, refl, ap, ◌∙◌, arith, Fits}
-use borrow.Author.Tests.{not-true, not-false}
+use Rattle.std.proofs.Common.{vec_items, sym, refl, ◌∙◌, arith}
 use Rattle.names.specs.Book.{texts, limits}
 use Rattle.names.proofs.Pieces.{length-pieces}
 use Rattle.names.proofs.Names.{number_reads}

@@ -1,4 +1,4 @@
-use Rattle.std.proofs.Common.{◌≡◌, ℕ, ◌-◌, ◌<◌, ◌≤◌, true, List, [], length, get_or, take, drop, vec_items, vec_len, sym, ap, ◌∙◌, arith, rules}
+use Rattle.std.proofs.Common.{◌≡◌, ℕ, ◌<◌, ◌≤◌, true, List, length, get_or, vec_items, arith}
 use borrow.Author.Rules.{get_or_read}
 use Rattle.names.specs.Pieces.{start_of, rising}
 use Rattle.names.proofs.Pieces.{piece_within, piece_at}

@@ -10,23 +10,23 @@ use Rattle.clauses.proofs.Entered.{entered, refused_by, numbered_by}
 use Rattle.clauses.specs.Listing.{listing_entered}
 use Rattle.clauses.proofs.tree.book.TreeBook.enter.Goals as goal
 
-pub returns-in-err-check-clause : goal.returns-in-err-check-clause
-returns-in-err-check-clause c =
+pub returns-in_err-check_clause : goal.returns-in_err-check_clause
+returns-in_err-check_clause c =
     let ns = c.args.nodes.now in
-    let p = err_from_is_err_and c.from-residual.result c.from-residual.ensures.1 in
+    let p = err_from_is_err_and c.from_residual.result c.from_residual.ensures.1 in
     let r = p.1 ∙ ap Err p.2 in
-    let a = r ∙ refused_by (texts c.args.names.now) (trees c.args.self.now) ns c.in-err-check-clause.field-0.0 c.in-err-check-clause.ensures in
+    let a = r ∙ refused_by (texts c.args.names.now) (trees c.args.self.now) ns c.in_err-check_clause.field-0.0 c.in_err-check_clause.ensures in
     record {
       answer = a;
       trees = sym (ap (λ (q : Result ℕ Refusal). with_entered q (trees c.args.self.now) ns) r);
       clauses = sym (ap (λ (q : Result ℕ Refusal). with_entered q (tree_clauses c.args.self.now) (tree_clause ns)) r);
-      law = entered (texts c.args.names.now) (trees c.args.self.now) ns c.from-residual.result a;
+      law = entered (texts c.args.names.now) (trees c.args.self.now) ns c.from_residual.result a;
     }
 
 pub returns : goal.returns
 returns c =
     let ns = c.args.nodes.now in
-    let a = numbered_by (texts c.args.names.now) (trees c.args.self.now) ns c.enter.result c.in-ok-check-clause.ensures c.enter.ensures.answer in
+    let a = numbered_by (texts c.args.names.now) (trees c.args.self.now) ns c.enter.result c.in_ok-check_clause.ensures c.enter.ensures.answer in
     record {
       answer = a;
       trees = c.enter.ensures.after;
