@@ -1,7 +1,7 @@
 -- The law of entering a tree, from the answer.
-use Rattle.std.proofs.Common.{◌≡◌, ℕ, ◌<◌, ◌≤◌, Bool, true, false, cond, ltb, leb, ◌⊎◌, List, [], ◌∷◌, ◌++◌, length, get_or, Ok, Err, Result, sym, refl, ap, ◌∙◌, subst, inl, inr, arith}
+use Rattle.std.proofs.Common.{◌≡◌, ℕ, ◌<◌, ◌≤◌, Bool, true, false, cond, ltb, leb, ◌⊎◌, List, [], ◌∷◌, length, get_or, Ok, Err, Result, sym, refl, ap, ◌∙◌, subst, inl, inr, arith}
 use Rattle.std.specs.List.{AllByRecursion as All}
-use Rattle.std.proofs.lemmas.Bool.{cases_Bool, cond-true, ltb-true, lt-ltb, leb-true, le-leb}
+use Rattle.std.proofs.lemmas.Bool.{cond-true, ltb-true, lt-ltb, leb-true, le-leb}
 use Rattle.refusals.specs.Refusals.{number}
 use Rattle.refusals.specs.declared.refusal.Refusal.{Refusal}
 use Rattle.refusals.specs.declared.refusal.Refusal.TheVariants.{UnknownName, TooLong, BookFull, BadTypeName, BadClause}
@@ -14,7 +14,7 @@ use Rattle.clauses.specs.Checks.{passed_if, and_then, in_turn, length_check}
 use Rattle.clauses.specs.NameChecks.{name_check, type_check, Known, Typed, First}
 use Rattle.clauses.specs.Nodes.{takes}
 use Rattle.clauses.specs.Shape.{shape}
-use Rattle.clauses.specs.Tree.{One, Lacking, Uneven}
+use Rattle.clauses.specs.Tree.{One}
 use Rattle.clauses.specs.TreeEntering.{names_in, types_in, misshapen, tree_check, tree_answer, TreeEntered}
 use Rattle.clauses.proofs.Rows.{judged}
 

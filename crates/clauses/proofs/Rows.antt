@@ -1,8 +1,8 @@
 -- Rows of trees, their writing, and the reading that counts operands.
-use Rattle.std.proofs.Common.{◌≡◌, ℕ, zero, suc, ◌+◌, ◌-◌, ◌<◌, ◌≤◌, Bool, true, false, cond, eqb, ltb, ◌⊎◌, List, [], ◌∷◌, ◌++◌, length, Ok, Err, Result, sym, refl, ap, ◌∙◌, subst, inl, inr, append_assoc, arith, length-append}
+use Rattle.std.proofs.Common.{◌≡◌, ℕ, zero, suc, ◌+◌, ◌-◌, ◌<◌, ◌≤◌, eqb, ltb, List, [], ◌∷◌, ◌++◌, length, Ok, Err, Result, sym, refl, ap, ◌∙◌, subst, inl, inr, append_assoc, arith, length-append}
 use Rattle.std.proofs.lemmas.Bool.{ltb-true, ltb-false, eqb-true, eqb-false, cases_Bool, lt-ltb, le-ltb, eq-eqb, ne_eqb}
 use Rattle.std.proofs.lemmas.List.{append-nil}
-use Rattle.clauses.specs.Tree.{Row, none, more, Tree, writing, count, Proper, alone, written, One, Lacking, Uneven, Verdict}
+use Rattle.clauses.specs.Tree.{Row, none, more, Tree, writing, count, Proper, alone, One, Lacking, Uneven, Verdict}
 use Rattle.clauses.specs.Shape.{shape, Judged, OneTree}
 
 module _ {N : Type 0} where

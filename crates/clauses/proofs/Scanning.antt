@@ -1,5 +1,5 @@
 -- One turn of the scan of a sealed text.
-use Rattle.std.proofs.Common.{◌≡◌, ℕ, ◌-◌, ◌<◌, List, [], ◌∷◌, length, get_or, take, drop, sym, refl, ap, ◌∙◌, subst, arith}
+use Rattle.std.proofs.Common.{◌≡◌, ℕ, ◌-◌, ◌<◌, List, [], ◌∷◌, length, get_or, take, drop, sym, ap, ◌∙◌, subst, arith}
 use lib.Bits.{bit_or, or_zero_r, or_lt}
 use Rattle.std.proofs.lemmas.List.{take_rest}
 use Rattle.refusals.specs.declared.slots.SlotId.TheVariants.{Principal, Resource}

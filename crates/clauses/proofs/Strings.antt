@@ -1,6 +1,6 @@
 -- The scanner is outside strings exactly behind bytes that leave no string open.
-use Rattle.std.proofs.Common.{◌≡◌, ℕ, true, false, cond, eqb, List, [], ◌∷◌, ◌++◌, sym, refl, ap, ◌∙◌, subst, inl, inr, arith}
-use Rattle.std.proofs.lemmas.Bool.{cases_Bool, eqb-true, eqb-false, eq-eqb, ne_eqb}
+use Rattle.std.proofs.Common.{◌≡◌, ℕ, true, false, eqb, List, [], ◌∷◌, ◌++◌, sym, refl, ap, ◌∙◌, subst, inl, inr, arith}
+use Rattle.std.proofs.lemmas.Bool.{cases_Bool, eqb-true, eqb-false, ne_eqb}
 use Rattle.clauses.specs.declared.sealed.scanner.Scanner.{Scanner}
 use Rattle.clauses.specs.declared.sealed.scanner.Scanner.TheVariants.{Plain, String, Escaped}
 use Rattle.clauses.specs.Sealed.{Inside, Closed, stepped}

@@ -1,5 +1,5 @@
 -- `==` on nodes answers whether they are equal.
-use Rattle.std.specs.Prelude.{◌≡◌, ℕ, ◌==◌, Bool, true, false, refl}
+use Rattle.std.specs.Prelude.{◌≡◌, ◌==◌, true, refl}
 use Rattle.std.proofs.Common.{ap, subst}
 use Rattle.std.proofs.lemmas.Bool.{and_parts, and_from, eqb-true, eq-eqb}
 use Rattle.std.specs.Cmp.{booleans_Decides}
@@ -10,7 +10,6 @@ use Rattle.clauses.specs.declared.tree.node.Node.{Node}
 use Rattle.clauses.specs.declared.tree.node.Node.TheVariants as node
 use Rattle.clauses.specs.declared.tree.node.Var.{Var}
 use Rattle.clauses.specs.declared.tree.node.Var.TheVariants as var
-use Rattle.clauses.specs.contracts.tree.node.NodePartialEq.TheImpl as derived
 use Rattle.clauses.specs.Book.{Decides}
 use Rattle.clauses.specs.Nodes.{same_node}
 

@@ -1,14 +1,13 @@
 -- The law of a tree book.
-use Rattle.std.specs.Prelude.{◌≡◌, ℕ, Bool, true, false, ◌&&◌, List, [], ◌∷◌, Some, None, refl}
-use Rattle.std.proofs.Common.{sym, ◌∙◌, ap, subst, arith}
+use Rattle.std.specs.Prelude.{◌≡◌, ℕ, Bool, List, [], ◌∷◌, Some, refl}
+use Rattle.std.proofs.Common.{arith}
 use Rattle.std.proofs.lemmas.Slice.Eq.{slice_eq-Decides}
-use Rattle.std.proofs.lemmas.Bool.{and_parts}
 use Rattle.refusals.specs.declared.slots.SlotId.TheVariants.{Principal, Resource}
 use Rattle.clauses.specs.declared.tree.node.Node.{Node}
 use Rattle.clauses.specs.declared.tree.node.Node.TheVariants as node
 use Rattle.std.specs.Bool.{Decides}
 use Rattle.clauses.specs.Book.{Decides as Comparing, Lawful, listing}
-use Rattle.clauses.specs.Nodes.{same_node, same_nodes, node_constant, node_slots, mentions, tree_slots, tree_constant, tree_clause}
+use Rattle.clauses.specs.Nodes.{same_nodes, node_constant, mentions, tree_slots, tree_constant, tree_clause}
 use Rattle.clauses.specs.Listing.{lawful_by}
 use Rattle.clauses.specs.NodeEquals.{node_decides}
 use Rattle.clauses.specs.SlotSets.{set_small}

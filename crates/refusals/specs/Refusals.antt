@@ -6,7 +6,6 @@ use Rattle.refusals.specs.declared.refusal.Table.{Table}
 use Rattle.refusals.specs.declared.refusal.Table.TheVariants.{Templates, Policies}
 use Rattle.refusals.specs.declared.refusal.TemplateValidationError.{TemplateValidationError}
 use Rattle.refusals.specs.declared.refusal.TemplateValidationError.TheVariants.{SlotsInConditionClause, InvalidActionType}
-use Rattle.refusals.specs.declared.refusal.InvalidTemplate.{InvalidTemplate as Invalid}
 use Rattle.refusals.specs.declared.refusal.Refusal.{Refusal}
 use Rattle.refusals.specs.declared.refusal.Refusal.TheVariants.{UnknownName, UnknownClause, TooLong, BookFull, BadTypeName, TooManyActions, BadClause, UnexpectedSlot, SlotCacheMismatch, Occupied, NoSuchTemplate, ArityError, PolicyIdConflict, NotLinkError, UnlinkingError, RemovePolicyNoLinkError, RemovePolicyNoTemplateError, NotTemplateError, RemoveTemplateNoTemplateError, RemoveTemplateWithLinksError, MissingTemplate, InvalidTemplate, ShortBuffer, Slotless, Crossed, Full}
 

@@ -1,4 +1,4 @@
-use Rattle.std.proofs.Common.{◌≡◌, [], get_or, Ok, Err, sym, refl, ◌∙◌}
+use Rattle.std.proofs.Common.{[], get_or, Ok, Err, sym, refl, ◌∙◌}
 use borrow.Author.Tests.{clash}
 use Rattle.std.proofs.lemmas.Bool.{cond-true, cond-false}
 use Rattle.std.proofs.lemmas.Bool.Decides.{not_from_Decides}
