@@ -69,7 +69,7 @@ fn spell(heap: Global, word: &[u8]) -> Result<Option<Vec<u8>>, AllocError>
 pub fn decode(heap: Global, word: &[u8]) -> Result<Option<Vec<u8>>, AllocError>
     ensures { IfOk result (λ text. option_map vec_items text ≡ decoded word.now) }
 {
-    if word == b"%" {
+    if word == b"%".as_slice() {
         return Ok(Some(Vec::new(heap)));
     }
     if word.is_empty() {
