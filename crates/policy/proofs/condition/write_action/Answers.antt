@@ -12,11 +12,11 @@ use Rattle.policy.proofs.condition.write_action.Goals as goal
 pub returns-in-In : goal.returns-in-In
 returns-in-In c =
     let l = c.in-In.actions in
-    let es = c.as-slice.result.now in
+    let es = c.as_slice.result.now in
     let n : l.count ≡ length es =
-    sym (length-take-le l.count l.items (omega arith)) ∙ ap length (sym c.as-slice.ensures) in
-    three_steps _ 11 c.push-in-In.ensures c.write-entities.ensures c.extend.ensures
+    sym (length-take-le l.count l.items (omega arith)) ∙ ap length (sym c.as_slice.ensures) in
+    three_steps _ 11 c.push-in-In.ensures c.write_entities.ensures c.extend.ensures
     (ap (λ (a : ActionConstraint). written (action_tree a)) c.in-In.is
-    ∙ ap (λ (xs : List EntityUID). written (over_two node.In (leaf node.Action) (set_tree xs))) (sym c.as-slice.ensures)
+    ∙ ap (λ (xs : List EntityUID). written (over_two node.In (leaf node.Action) (set_tree xs))) (sym c.as_slice.ensures)
     ∙ written_actions es l.count n)
     (omega (arith, n))

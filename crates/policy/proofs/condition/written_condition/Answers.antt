@@ -35,11 +35,11 @@ returns g c =
     let a = action_tree t.action in
     let r = resource_tree t.resource in
     let n = clause_node cs t.clause in
-    let wrote = c.push.ensures.more ∙ ap (λ (x : ConditionNode). nodes_of c.write-scope-2.new.list ++ (x ∷ [])) c.clause-node.ensures in
+    let wrote = c.push.ensures.more ∙ ap (λ (x : ConditionNode). nodes_of c.write_scope-2.new.list ++ (x ∷ [])) c.clause_node.ensures in
     let gp = good_principal t.principal in
     let ga = good_action t.action in
     let gr = good_resource t.resource in
     let gn = good_clause cs t.clause in
     all_joined p a r n gp ga gr gn
-    (in_turn p a r n gp ga gr gn c.new-list.ensures.0 c.write-scope.ensures.more c.write-action.ensures.more c.write-scope-2.ensures.more wrote)
+    (in_turn p a r n gp ga gr gn c.new-list.ensures.0 c.write_scope.ensures.more c.write_action.ensures.more c.write_scope-2.ensures.more wrote)
     c.and.ensures c.and-2.ensures c.and-3.ensures

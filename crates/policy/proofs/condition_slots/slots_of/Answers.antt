@@ -12,4 +12,4 @@ returns g c =
     (λ slot. slotted c.args.principal && slot_equal slot Principal)
     (λ slot. slotted c.args.resource && slot_equal slot Resource)
     (clause_has (g.B.ClauseBook.listed c.args.clauses.now) c.args.clause)
-    c.scope-slots.ensures c.scope-slots-2.ensures c.clause-slots.ensures c.union-scopes.ensures c.union.ensures
+    c.scope_slots.ensures c.scope_slots-2.ensures c.clause_slots.ensures c.union-scopes.ensures c.union.ensures

@@ -1,12 +1,10 @@
-use Rattle.std.proofs.Common.{◌≡◌, Bool, rules}
-use Rattle.names.specs.declared.entity.EntityUID.{EntityUID}
 use Rattle.names.specs.contracts.entity.EntityUIDPartialEq.TheImpl as TheImpl
+use Rattle.std.proofs.Common.{refl}
 use Rattle.policy.specs.Equality.{entity_equal}
-use Rattle.policy.proofs.Lists.{matches_equal}
+use Rattle.policy.proofs.Lists.{pointwise-list_equal}
 use Rattle.policy.proofs.equality.action_lists_equal.Goals as goal
 
-by : (a b : EntityUID) (t : Bool) → (TheImpl.ghosts).equals a b t → t ≡ entity_equal a b
-by a b t h = search rules
-
 pub returns : goal.returns
-returns c = let h = matches_equal _ entity_equal by _ _ _ c.eq.ensures in cc
+returns c =
+    let h = pointwise-list_equal (TheImpl.ghosts).eq entity_equal (λ a b. refl) c.as_slice.result.now c.as_slice-2.result.now in
+    cc

@@ -15,15 +15,15 @@ onward count list i r h e =
     ∙ sym (turn_append (name_known count) (entity_names (get_or list i (record { ty = 0; eid = 0 }))) (entities_names (drop (i + 1) list)))
     ∙ sym (at_drop_more (λ (es : List EntityUID). names_known count (entities_names es)) list i (record { ty = 0; eid = 0 }) h)
 
-pub returns-in-err-known-entity : goal.returns-in-err-known-entity
-returns-in-err-known-entity c =
-    broke c.from-residual.result c.from-residual.ensures.1
-    ∙ onward c.args.count c.args.list.now c.loop-e.e-index (Err c.in-err-known-entity.field-0.0) c.loop-e-test.true c.in-err-known-entity.ensures
+pub returns-in_err-known_entity : goal.returns-in_err-known_entity
+returns-in_err-known_entity c =
+    broke c.from_residual.result c.from_residual.ensures.1
+    ∙ onward c.args.count c.args.list.now c.loop-e.e-index (Err c.in_err-known_entity.field-0.0) c.loop-e-test.true c.in_err-known_entity.ensures
     ∙ c.loop-e.invariant
 
 pub loop-e-preserved : goal.loop-e-preserved
 loop-e-preserved c =
-    onward c.args.count c.args.list.now c.loop-e.e-index (Ok tt) c.loop-e-test.true c.in-ok-known-entity.ensures
+    onward c.args.count c.args.list.now c.loop-e.e-index (Ok tt) c.loop-e-test.true c.in_ok-known_entity.ensures
     ∙ c.loop-e.invariant
 
 pub returns : goal.returns

@@ -10,21 +10,21 @@ tested : (count : ℕ) (t : Template) (link : Option ℕ) (env : SlotEnv)
     ≡ names_known count (parts_names t link env)
 tested count t link env = turn_three (name_known count) (template_names t) (optional (λ n. n ∷ []) link) (values_names env)
 
-pub returns-in-err-known-names : goal.returns-in-err-known-names
-returns-in-err-known-names c =
-    broke c.from-residual.result c.from-residual.ensures.1
-    ∙ stops _ c.in-err-known-names.ensures ∙ tested c.args.count c.args.template.now c.args.link c.args.values
+pub returns-in_err-known_names : goal.returns-in_err-known_names
+returns-in_err-known_names c =
+    broke c.from_residual.result c.from_residual.ensures.1
+    ∙ stops _ c.in_err-known_names.ensures ∙ tested c.args.count c.args.template.now c.args.link c.args.values
 
-pub returns-in-err-known-link : goal.returns-in-err-known-link
-returns-in-err-known-link c =
-    broke c.from-residual-in-err-known-link.result c.from-residual-in-err-known-link.ensures.1
-    ∙ stops _ c.in-err-known-link.ensures
-    ∙ passes _ c.in-ok-known-names.ensures
+pub returns-in_err-known_link : goal.returns-in_err-known_link
+returns-in_err-known_link c =
+    broke c.from_residual-in_err-known_link.result c.from_residual-in_err-known_link.ensures.1
+    ∙ stops _ c.in_err-known_link.ensures
+    ∙ passes _ c.in_ok-known_names.ensures
     ∙ tested c.args.count c.args.template.now c.args.link c.args.values
 
 pub returns : goal.returns
 returns c =
-    c.known-values.ensures
-    ∙ passes _ c.in-ok-known-link.ensures
-    ∙ passes _ c.in-ok-known-names.ensures
+    c.known_values.ensures
+    ∙ passes _ c.in_ok-known_link.ensures
+    ∙ passes _ c.in_ok-known_names.ensures
     ∙ tested c.args.count c.args.template.now c.args.link c.args.values

@@ -18,9 +18,9 @@ module _ (es : Bor (List EntityUID)) (l : ActionList) where
   by_test true e h = absurd (let z : ◌≡◌ {A = ℕ} 0 1 = cc in omega arith)
   by_test false e h = (action.In l, (l, refl, cc), refl)
 
-pub returns-in-ok-list-of : goal.returns-in-ok-list-of
-returns-in-ok-list-of c =
-    let l = c.in-ok-list-of.field-0 in
+pub returns-in_ok-list_of-in-In : goal.returns-in_ok-list_of-in-In
+returns-in_ok-list_of-in-In c =
+    let l = c.in_ok-list_of-in-In.field-0 in
     let es = c.in-In.entities in
     subst (λ (s : ActionScope). MakesAction s (Ok (action.In l))) (sym c.in-In.is)
-    (by_test es l (ltb 8 (length es.now)) _ c.in-ok-list-of.ensures)
+    (by_test es l (ltb 8 (length es.now)) _ c.in_ok-list_of-in-In.ensures)

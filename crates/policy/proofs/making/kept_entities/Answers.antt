@@ -17,15 +17,15 @@ onward ts list i r h e =
     ∙ sym (turn_append (type_kept ts) ((get_or list i (record { ty = 0; eid = 0 })).ty ∷ []) (entities_types (drop (i + 1) list)))
     ∙ sym (at_drop_more (λ (es : List EntityUID). types_kept ts (entities_types es)) list i (record { ty = 0; eid = 0 }) h)
 
-pub returns-in-err-kept-type : goal.returns-in-err-kept-type
-returns-in-err-kept-type c =
-    broke c.from-residual.result c.from-residual.ensures.1
-    ∙ onward (texts c.args.names.now) c.args.list.now c.loop-e.e-index (Err c.in-err-kept-type.field-0.0) c.loop-e-test.true c.in-err-kept-type.ensures
+pub returns-in_err-kept_type : goal.returns-in_err-kept_type
+returns-in_err-kept_type c =
+    broke c.from_residual.result c.from_residual.ensures.1
+    ∙ onward (texts c.args.names.now) c.args.list.now c.loop-e.e-index (Err c.in_err-kept_type.field-0.0) c.loop-e-test.true c.in_err-kept_type.ensures
     ∙ c.loop-e.invariant
 
 pub loop-e-preserved : goal.loop-e-preserved
 loop-e-preserved c =
-    onward (texts c.args.names.now) c.args.list.now c.loop-e.e-index (Ok tt) c.loop-e-test.true c.in-ok-kept-type.ensures
+    onward (texts c.args.names.now) c.args.list.now c.loop-e.e-index (Ok tt) c.loop-e-test.true c.in_ok-kept_type.ensures
     ∙ c.loop-e.invariant
 
 pub returns : goal.returns

@@ -13,16 +13,16 @@ tested : (ts : List (List ℕ)) (t : Template)
     ≡ types_kept ts (template_types t)
 tested ts t = turn_three (type_kept ts) (scope_types t.principal) (entities_types (actions_of t.action)) (scope_types t.resource)
 
-pub returns-in-err-kept-action : goal.returns-in-err-kept-action
-returns-in-err-kept-action c =
-    broke c.from-residual-in-err-kept-action.result c.from-residual-in-err-kept-action.ensures.1
-    ∙ stops _ c.in-err-kept-action.ensures
-    ∙ passes _ c.in-ok-kept-scope.ensures
+pub returns-in_err-kept_action : goal.returns-in_err-kept_action
+returns-in_err-kept_action c =
+    broke c.from_residual-in_err-kept_action.result c.from_residual-in_err-kept_action.ensures.1
+    ∙ stops _ c.in_err-kept_action.ensures
+    ∙ passes _ c.in_ok-kept_scope.ensures
     ∙ tested (texts c.args.names.now) c.args.t.now
 
 pub returns : goal.returns
 returns c =
-    c.kept-scope-2.ensures
-    ∙ passes _ c.in-ok-kept-action.ensures
-    ∙ passes _ c.in-ok-kept-scope.ensures
+    c.kept_scope-2.ensures
+    ∙ passes _ c.in_ok-kept_action.ensures
+    ∙ passes _ c.in_ok-kept_scope.ensures
     ∙ tested (texts c.args.names.now) c.args.t.now

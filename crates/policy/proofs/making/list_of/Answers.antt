@@ -24,11 +24,15 @@ module _ (es ys : List EntityUID) (e : ys ≡ es) (few : length es ≤ 8) where
       ap blank (drop-put_mid 0 (length es - 0) blanks ys (length es) (omega arith) (omega arith) (omega (arith, ap length e)))
       ∙ blank-drop (length es) blanks refl
 
-pub invariant-of-result : goal.invariant-of-result
-invariant-of-result c =
-    (search (rules, places), (omega arith, (padded c.args.entities.now c.copy-from-slice.new.self c.copy-from-slice.ensures.after (omega arith), tt)))
+pub invariant_of-result : goal.invariant_of-result
+invariant_of-result c =
+    record {
+      whole = search (rules, places);
+      few = omega arith;
+      padded = padded c.args.entities.now c.copy_from_slice.new.self c.copy_from_slice.ensures.after (omega arith);
+    }
 
 pub returns : goal.returns
 returns c =
-    ap Ok (taken c.args.entities.now c.copy-from-slice.new.self c.copy-from-slice.ensures.after (omega arith))
+    ap Ok (taken c.args.entities.now c.copy_from_slice.new.self c.copy_from_slice.ensures.after (omega arith))
     ∙ cond_above 8 (length c.args.entities.now) _ _ _ (omega arith) refl

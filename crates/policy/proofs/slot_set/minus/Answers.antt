@@ -6,8 +6,11 @@ use Rattle.policy.proofs.Bits.{minus_bits}
 use Rattle.policy.proofs.Records.{slot_sets}
 use Rattle.policy.proofs.slot_set.minus.Goals as goal
 
-pub invariant-of-result : goal.invariant-of-result
-invariant-of-result c = (omega (arith, and_le_l c.args.a.bits (bit_xor c.args.b.bits 3), c.args.a.two_bits), tt)
+pub invariant_of-result : goal.invariant_of-result
+invariant_of-result c =
+    record {
+      two_bits = omega (arith, and_le_l c.args.a.bits (bit_xor c.args.b.bits 3), c.args.a.two_bits);
+    }
 
 pub returns : goal.returns
 returns c =

@@ -10,9 +10,11 @@ one_bit : (slot : SlotId) → slot_bit slot ≡ (slots_where (λ other. slot_equ
 one_bit Principal = refl
 one_bit Resource = refl
 
-pub invariant-of-result : goal.invariant-of-result
-invariant-of-result c =
-    (subst (λ (n : ℕ). n < 4) (sym (c.bit.ensures ∙ one_bit c.args.slot)) (slots_where (λ other. slot_equal other c.args.slot)).two_bits, tt)
+pub invariant_of-result : goal.invariant_of-result
+invariant_of-result c =
+    record {
+      two_bits = subst (λ (n : ℕ). n < 4) (sym (c.bit.ensures ∙ one_bit c.args.slot)) (slots_where (λ other. slot_equal other c.args.slot)).two_bits;
+    }
 
 pub returns : goal.returns
 returns c = slot_sets _ (slots_where (λ other. slot_equal other c.args.slot)) (c.bit.ensures ∙ one_bit c.args.slot)

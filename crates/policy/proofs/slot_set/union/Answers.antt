@@ -4,8 +4,11 @@ use Rattle.policy.proofs.Bits.{union_bits}
 use Rattle.policy.proofs.Records.{slot_sets}
 use Rattle.policy.proofs.slot_set.union.Goals as goal
 
-pub invariant-of-result : goal.invariant-of-result
-invariant-of-result c = (or_lt 2 c.args.a.bits c.args.b.bits c.args.a.two_bits c.args.b.two_bits, tt)
+pub invariant_of-result : goal.invariant_of-result
+invariant_of-result c =
+    record {
+      two_bits = or_lt 2 c.args.a.bits c.args.b.bits c.args.a.two_bits c.args.b.two_bits;
+    }
 
 pub returns : goal.returns
 returns c =

@@ -3,10 +3,13 @@ use Rattle.policy.proofs.Bits.{joined_bits, joined_two_bits}
 use Rattle.policy.proofs.Records.{slot_sets}
 use Rattle.policy.proofs.slot_set.value_slots.Goals as goal
 
-pub invariant-of-result : goal.invariant-of-result
-invariant-of-result c = (joined_two_bits c.args.values c.bit-of.result c.bit-of-2.result c.bit-of.ensures c.bit-of-2.ensures, tt)
+pub invariant_of-result : goal.invariant_of-result
+invariant_of-result c =
+    record {
+      two_bits = joined_two_bits c.args.values c.bit_of.result c.bit_of-2.result c.bit_of.ensures c.bit_of-2.ensures;
+    }
 
 pub returns : goal.returns
 returns c =
     slot_sets _ (slots_where (bound c.args.values))
-    (joined_bits c.args.values c.bit-of.result c.bit-of-2.result c.bit-of.ensures c.bit-of-2.ensures)
+    (joined_bits c.args.values c.bit_of.result c.bit_of-2.result c.bit_of.ensures c.bit_of-2.ensures)

@@ -6,6 +6,6 @@ use Rattle.script.proofs.decode.coded_byte.Goals as goal
 pub returns : goal.returns
 returns c =
     let l : 2 ≤ length c.args.word.now = search rules in (
-      coded-at c.args.word.now l ∙ sym c.hex-byte.ensures ∙ c.in-ok-byte.was,
+      coded-at c.args.word.now l ∙ sym c.hex_byte.ensures ∙ c.in_ok-byte.was,
       take_rest c.args.word.now 2,
     )

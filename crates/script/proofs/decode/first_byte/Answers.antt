@@ -22,7 +22,7 @@ returns-in-37 c =
     by_coded w (take (length w - 1) (drop 1 w)) _
     (spelled-coded w c.requires e ∙ ap (λ (l : List ℕ). put (coded l) (spelled (drop 2 l))) (sym r))
     (omega (arith, ap length r, length-drop 1 w, c.requires))
-    c.coded-byte.ensures
+    c.coded_byte.ensures
 
 pub returns-in-len1-up : goal.returns-in-len1-up
 returns-in-len1-up c =

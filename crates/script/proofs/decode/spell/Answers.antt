@@ -5,7 +5,7 @@ use Rattle.script.proofs.decode.spell.Goals as goal
 
 pub loop-rest-preserved : goal.loop-rest-preserved
 loop-rest-preserved c =
-    ap (λ (front : List ℕ). behind front (spelled c.in-Some.tail.now)) c.in-ok-push.ensures.items
+    ap (λ (front : List ℕ). behind front (spelled c.in-Some.tail.now)) c.in_ok-push.ensures.items
     ∙ sym (behind_put (vec_items c.loop-rest.text) c.in-Some.byte (spelled c.in-Some.tail.now))
     ∙ ap (behind (vec_items c.loop-rest.text)) (sym c.in-Some.ensures.0)
     ∙ c.loop-rest.invariant

@@ -20,12 +20,12 @@ module _ {T E : Type 0} (bytes : T → List ℕ) (r : Result T E) (colon : Colon
     by (Ok word) h = ap decoded h ∙ ap (λ (t : List ℕ). Some t) (sym none)
     by (Err e) h = tt
 
-pub returns-then-is-empty : goal.returns-then-is-empty
-returns-then-is-empty c =
-    let none = nil_from_length c.args.text.now (true-eqb _ 0 c.if-is-empty.ensures) in
+pub returns-then-is_empty : goal.returns-then-is_empty
+returns-then-is_empty c =
+    let none = nil_from_length c.args.text.now (true-eqb _ 0 c.if-is_empty.ensures) in
     record {
-      word = empty_word _ _ c.args.colon _ none c.from-str.ensures.ok;
-      reads_back = empty_back _ _ c.args.colon _ none c.from-str.ensures.ok;
+      word = empty_word _ _ c.args.colon _ none c.from_str.ensures.ok;
+      reads_back = empty_back _ _ c.args.colon _ none c.from_str.ensures.ok;
     }
 
 -- One byte more.
@@ -38,13 +38,13 @@ more w text before after i h e f =
 
 pub loop-byte-preserved : goal.loop-byte-preserved
 loop-byte-preserved c =
-    more (written c.args.colon) c.args.text.now (string_bytes c.loop-byte.word) (string_bytes c.push-byte.new.word) c.loop-byte.byte-index
-    c.loop-byte-test.true c.loop-byte.invariant c.in-ok-push-byte.ensures
+    more (written c.args.colon) c.args.text.now (string_bytes c.loop-byte.word) (string_bytes c.push_byte.new.word) c.loop-byte.byte-index
+    c.loop-byte-test.true c.loop-byte.invariant c.in_ok-push_byte.ensures
 
 pub returns : goal.returns
 returns c =
     let text = c.args.text.now in
-    let some : 0 < length text = omega (arith, false-eqb (length text) 0 c.if-is-empty.ensures) in
+    let some : 0 < length text = omega (arith, false-eqb (length text) 0 c.if-is_empty.ensures) in
     let word = c.loop-byte.invariant ∙ ap (flat_map (written c.args.colon)) (take_all c.loop-byte.byte-index text c.loop-byte-test.false)
     ∙ sym (encoded-joined c.args.colon text some) in
-    record { word = word; reads_back = ap decoded word ∙ decoded-encoded c.args.colon text (λ i. omega (arith, c.type-inv.text i)) }
+    record { word = word; reads_back = ap decoded word ∙ decoded-encoded c.args.colon text (λ i. omega (arith, c.type_inv.text i)) }

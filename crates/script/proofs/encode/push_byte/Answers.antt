@@ -24,10 +24,10 @@ returns c =
     let high : c.args.byte / 16 < 16 = omega (arith, c.ranges.byte.fits) in
     let low : c.args.byte % 16 < 16 = omega arith in
     coded c.push-4.result c.args.colon c.args.byte (string_bytes c.args.word.now) (string_bytes c.push-2.new.self)
-    (string_bytes c.push-3.new.self) (string_bytes c.push-4.new.self) _ _ _ (sym c.is-plain.ensures ∙ c.if-is-plain.false)
-    c.in-ok-push.ensures.bytes
+    (string_bytes c.push-3.new.self) (string_bytes c.push-4.new.self) _ _ _ (sym c.is_plain.ensures ∙ c.if-is_plain.false)
+    c.in_ok-push.ensures.bytes
     (c.push-2.ensures.ascii (omega arith))
-    c.in-ok-push-2.ensures.bytes
-    (one _ _ _ (c.from-2.ensures ∙ c.hex-digit.ensures) (hex_digit_small _ high) c.push-3.ensures.ascii)
+    c.in_ok-push-2.ensures.bytes
+    (one _ _ _ (c.from-2.ensures ∙ c.hex_digit.ensures) (hex_digit_small _ high) c.push-3.ensures.ascii)
     c.push-4.ensures.bytes
-    (one _ _ _ (c.from-3.ensures ∙ c.hex-digit-2.ensures) (hex_digit_small _ low) c.push-4.ensures.ascii)
+    (one _ _ _ (c.from-3.ensures ∙ c.hex_digit-2.ensures) (hex_digit_small _ low) c.push-4.ensures.ascii)

@@ -13,10 +13,10 @@ step most digits i value next whole h e read =
     ∙ sym (ap (at_most most) (at_drop_more (continued (Some value)) digits i 0 h))
     ∙ read
 
-pub returns-in-default : goal.returns-in-default
-returns-in-default c =
+pub returns-in_default : goal.returns-in_default
+returns-in_default c =
     sym (ap (at_most c.args.most) (none_stays (drop (c.loop-byte.byte-index + 1) c.args.digits.now)))
-    ∙ step c.args.most c.args.digits.now c.loop-byte.byte-index c.loop-byte.value None _ c.loop-byte-test.true c.in-default.ensures c.loop-byte.invariant.1
+    ∙ step c.args.most c.args.digits.now c.loop-byte.byte-index c.loop-byte.value None _ c.loop-byte-test.true c.in_default.ensures c.loop-byte.invariant.1
 
 pub loop-byte-preserved : goal.loop-byte-preserved
 loop-byte-preserved c = (

@@ -30,14 +30,14 @@ none line middle word rest k h =
       ap words (k.left ∙ ap (λ (m : List ℕ). drop (front false m) m) e),
     )
 
-pub split-at-requires : goal.split-at-requires
-split-at-requires c = omega (arith, c.run-length.ensures, front-within true c.args.line.now)
+pub split_at-requires : goal.split_at-requires
+split_at-requires c = omega (arith, c.run_length.ensures, front-within true c.args.line.now)
 
-pub split-at-requires-2 : goal.split-at-requires-2
-split-at-requires-2 c = omega (arith, c.run-length-2.ensures, front-within false c.split-at.result.1.now)
+pub split_at-requires-2 : goal.split_at-requires-2
+split_at-requires-2 c = omega (arith, c.run_length-2.ensures, front-within false c.split_at.result.1.now)
 
 pub returns : goal.returns
 returns c =
-    let k = cut c.args.line.now c.split-at.result.1.now c.split-at-2.result.0.now c.split-at-2.result.1.now c.run-length.result c.run-length-2.result
-    c.run-length.ensures c.run-length-2.ensures c.split-at.ensures.back c.split-at-2.ensures.front c.split-at-2.ensures.back in
+    let k = cut c.args.line.now c.split_at.result.1.now c.split_at-2.result.0.now c.split_at-2.result.1.now c.run_length.result c.run_length-2.result
+    c.run_length.ensures c.run_length-2.ensures c.split_at.ensures.back c.split_at-2.ensures.front c.split_at-2.ensures.back in
     record { some = some _ _ _ _ k; none = none _ _ _ _ k }

@@ -12,18 +12,18 @@ step : (s t : Bool) (line : List ℕ) (i : ℕ) → i < length line → t ≡ be
 step s t line i h e =
     at_drop_more (front s) line i 0 h ∙ ap (λ (b : Bool). cond b (suc (front s (drop (i + 1) line))) 0) (sym e)
 
-pub returns-then-is-separator-separators : goal.returns-then-is-separator-separators
-returns-then-is-separator-separators c =
-    let e = not-true (beq c.is-separator.result c.args.separators) c.if-is-separator-separators.true in
+pub returns-then-is_separator-separators : goal.returns-then-is_separator-separators
+returns-then-is_separator-separators c =
+    let e = not-true (beq c.is_separator.result c.args.separators) c.if-is_separator-separators.true in
     let k = step c.args.separators false c.args.line.now c.loop-i.i c.loop-i-test.true
-    (sym e ∙ ap (λ (b : Bool). beq b c.args.separators) c.is-separator.ensures) in
+    (sym e ∙ ap (λ (b : Bool). beq b c.args.separators) c.is_separator.ensures) in
     omega (arith, k, c.loop-i.invariant)
 
 pub loop-i-preserved : goal.loop-i-preserved
 loop-i-preserved c =
-    let e = not-false (beq c.is-separator.result c.args.separators) c.if-is-separator-separators.false in
+    let e = not-false (beq c.is_separator.result c.args.separators) c.if-is_separator-separators.false in
     let k = step c.args.separators true c.args.line.now c.loop-i.i c.loop-i-test.true
-    (sym e ∙ ap (λ (b : Bool). beq b c.args.separators) c.is-separator.ensures) in
+    (sym e ∙ ap (λ (b : Bool). beq b c.args.separators) c.is_separator.ensures) in
     omega (arith, k, c.loop-i.invariant)
 
 pub returns : goal.returns

@@ -7,5 +7,5 @@ returns g c = record {
   answer = search rules;
   words =
       policies_decided g.B.ClauseBook.equal (g.B.ClauseBook.listed c.args.clauses.now) g.met.B.ClauseBook.decides
-      c.args.self.now c.args.other.now c.policies-equal.result c.policies-equal.ensures;
+      c.args.self.now c.args.other.now c.policies_equal.result c.policies_equal.ensures;
 }

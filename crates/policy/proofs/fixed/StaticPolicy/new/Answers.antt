@@ -23,5 +23,8 @@ no_bits slots h =
     by_four Empty (λ _. refl) (λ e. absurd (never (UnexpectedSlot Principal) e)) (λ e. absurd (never (UnexpectedSlot Resource) e))
     (λ e. absurd (never (UnexpectedSlot Principal) e)) slots.bits slots.two_bits h
 
-pub invariant-of-result : goal.invariant-of-result
-invariant-of-result g c = (no_bits c.args.template.slots c.in-ok-slotless.ensures, tt)
+pub invariant_of-result : goal.invariant_of-result
+invariant_of-result g c =
+    record {
+      slotless = no_bits c.args.template.slots c.in_ok-slotless.ensures;
+    }

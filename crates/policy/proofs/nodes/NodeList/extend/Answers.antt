@@ -9,11 +9,15 @@ returns c = record {
   more =
       let l = c.args.self.now in
       let ns = c.args.nodes.now in
-      take-put_mid l.count ((l.count + length ns) - l.count) l.nodes c.copy-from-slice.new.self (l.count + length ns)
-      (omega (arith, ap length c.copy-from-slice.ensures.after)) (omega arith)
-      ∙ ap (λ (x : List ConditionNode). take l.count l.nodes ++ x) c.copy-from-slice.ensures.after;
+      take-put_mid l.count ((l.count + length ns) - l.count) l.nodes c.copy_from_slice.new.self (l.count + length ns)
+      (omega (arith, ap length c.copy_from_slice.ensures.after)) (omega arith)
+      ∙ ap (λ (x : List ConditionNode). take l.count l.nodes ++ x) c.copy_from_slice.ensures.after;
   few = omega arith;
 }
 
-pub invariant-of-self : goal.invariant-of-self
-invariant-of-self c = (search (rules, places), (omega arith, tt))
+pub invariant_of-self : goal.invariant_of-self
+invariant_of-self c =
+    record {
+      whole = search (rules, places);
+      few = omega arith;
+    }

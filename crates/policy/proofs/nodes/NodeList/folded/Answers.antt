@@ -6,18 +6,18 @@ use Rattle.policy.specs.Condition.{both, constant}
 use Rattle.policy.proofs.Ends.{last, last_but_one, two_there}
 use Rattle.policy.proofs.nodes.NodeList.folded.Goals as goal
 
-pub returns-in-default : goal.returns-in-default
-returns-in-default c = record {
+pub returns-in_default : goal.returns-in_default
+returns-in_default c = record {
   there = λ h. absurd (false≢true h);
-  last_two = λ f a b e. let n = two_there _ f a b (c.as-slice.ensures ∙ e) in absurd (omega (arith, ltb-true));
+  last_two = λ f a b e. let n = two_there _ f a b (c.as_slice.ensures ∙ e) in absurd (omega (arith, ltb-true));
 }
 
 pub returns-in-len2-up : goal.returns-in-len2-up
 returns-in-len2-up c = record {
-  there = λ h. omega (arith, ltb-false, ap length c.as-slice.ensures);
+  there = λ h. omega (arith, ltb-false, ap length c.as_slice.ensures);
   last_two = λ f a b e.
-      let g = c.as-slice.ensures ∙ e in
+      let g = c.as_slice.ensures ∙ e in
       let p = c.constant.ensures ∙ ap constant (last_but_one _ f a b (node.Bool false) g) in
       let q = c.constant-in-len2-up.ensures ∙ ap constant (last _ f a b (node.Bool false) g) in
-      c.both-constants.ensures ∙ (λ i. both (p i) (q i));
+      c.both_constants.ensures ∙ (λ i. both (p i) (q i));
 }

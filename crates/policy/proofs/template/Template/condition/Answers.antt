@@ -16,13 +16,13 @@ use Rattle.policy.proofs.template.Template.condition.Goals as goal
 one_tree : {C : Type 0} (cs : List (Clause C)) (t : Template) → One arity (written (condition_tree cs t))
 one_tree cs t = record { tree = condition_tree cs t; proper = good_condition cs t; spelled = refl }
 
-pub returns-in-err-known-template : goal.returns-in-err-known-template
-returns-in-err-known-template g c =
+pub returns-in_err-known_template : goal.returns-in_err-known_template
+returns-in_err-known_template g c =
     let t = c.args.self.now in
     let cs = g.B.ClauseBook.listed c.args.clauses.now in
-    let e = broke c.from-residual.result c.from-residual.ensures.1 in
+    let e = broke c.from_residual.result c.from_residual.ensures.1 in
     record {
-      answer = e ∙ stops _ (c.in-err-known-template.ensures ∙ ap (λ (n : ℕ). template_known n cs t) c.count.ensures.count);
+      answer = e ∙ stops _ (c.in_err-known_template.ensures ∙ ap (λ (n : ℕ). template_known n cs t) c.count.ensures.count);
       buffer = ap (λ (r : Result ℕ Refusal). buffer_after (written (condition_tree cs t)) c.args.buffer.now r) (sym e);
       one_tree = one_tree cs t;
       means = means cs t;
@@ -33,13 +33,13 @@ pub returns : goal.returns
 returns g c =
     let t = c.args.self.now in
     let cs = g.B.ClauseBook.listed c.args.clauses.now in
-    let same = c.as-slice.ensures ∙ c.written-condition-nodes.ensures in
+    let same = c.as_slice.ensures ∙ c.written_condition-nodes.ensures in
     record {
       answer =
-          c.copy-out.ensures.answer
+          c.copy_out.ensures.answer
           ∙ ap (λ (ns : List ConditionNode). fitted ns (length c.args.buffer.now)) same
-          ∙ passes _ (c.in-ok-known-template.ensures ∙ ap (λ (n : ℕ). template_known n cs t) c.count.ensures.count);
-      buffer = c.copy-out.ensures.buffer ∙ ap (λ (ns : List ConditionNode). buffer_after ns c.args.buffer.now c.copy-out.result) same;
+          ∙ passes _ (c.in_ok-known_template.ensures ∙ ap (λ (n : ℕ). template_known n cs t) c.count.ensures.count);
+      buffer = c.copy_out.ensures.buffer ∙ ap (λ (ns : List ConditionNode). buffer_after ns c.args.buffer.now c.copy_out.result) same;
       one_tree = one_tree cs t;
       means = means cs t;
       hierarchy = in_decided;

@@ -7,5 +7,5 @@ returns g c = record {
   answer = search rules;
   words =
       templates_decided g.B.ClauseBook.equal (g.B.ClauseBook.listed c.args.clauses.now) g.met.B.ClauseBook.decides
-      c.args.self.now c.args.other.now c.templates-equal.result c.templates-equal.ensures;
+      c.args.self.now c.args.other.now c.templates_equal.result c.templates_equal.ensures;
 }

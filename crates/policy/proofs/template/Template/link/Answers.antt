@@ -16,9 +16,9 @@ exact count cs t link env h =
     let known = last_accepts (names_known count (parts_names t link env)) (and_then (clause_known cs t.clause) (bindable t.slots env)) h in
     bound_exact t.slots env (last_accepts (clause_known cs t.clause) (bindable t.slots env) known)
 
-pub invariant-of-result : goal.invariant-of-result
-invariant-of-result g c = (
-  exact c.count.result (g.B.ClauseBook.listed c.args.clauses.now) c.args.self.now (Some c.args.new_id) c.args.values
-      c.in-ok-tested-binding.ensures,
-  (refl, tt),
-)
+pub invariant_of-result : goal.invariant_of-result
+invariant_of-result g c =
+    record {
+      exact = exact c.count.result (g.B.ClauseBook.listed c.args.clauses.now) c.args.self.now (Some c.args.new_id) c.args.values c.in_ok-tested_binding.ensures;
+      unlinked = refl;
+    }

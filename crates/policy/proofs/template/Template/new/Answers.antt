@@ -10,15 +10,15 @@ use Rattle.policy.proofs.Within.{parts_slots, within-parts}
 use Rattle.policy.proofs.Makings.{makes_refused, makes_made, within_made}
 use Rattle.policy.proofs.template.Template.new.Goals as goal
 
-pub returns-in-err-action : goal.returns-in-err-action
-returns-in-err-action g c =
+pub returns-in_err-action : goal.returns-in_err-action
+returns-in_err-action g c =
     let ts = texts c.args.names.now in
     let cs = g.B.ClauseBook.listed c.args.clauses.now in
-    let e = broke c.from-residual.result c.from-residual.ensures.1 in
+    let e = broke c.from_residual.result c.from_residual.ensures.1 in
     record {
       answer =
           subst (λ (r : Result Template Refusal). Makes ts cs c.args.id c.args.effect c.args.principal c.args.action c.args.resource c.args.clause r) (sym e)
-          (makes_refused ts cs c.args.id c.args.effect c.args.principal c.args.action c.args.resource c.args.clause _ c.in-err-action.ensures);
+          (makes_refused ts cs c.args.id c.args.effect c.args.principal c.args.action c.args.resource c.args.clause _ c.in_err-action.ensures);
       within = subst (λ (r : Result Template Refusal). IfOk r (λ t. scopes_within t ≡ true)) (sym e) tt;
       types = scan_decides;
     }
@@ -31,15 +31,15 @@ returns g c =
       id = c.args.id;
       effect = c.args.effect;
       principal = c.args.principal;
-      action = c.in-ok-action.action;
+      action = c.in_ok-action.action;
       resource = c.args.resource;
       clause = c.args.clause;
-      slots = c.slots-of-slots.result;
+      slots = c.slots_of-slots.result;
     } in
     record {
       answer =
           makes_made ts cs c.args.id c.args.effect c.args.principal c.args.action c.args.resource c.args.clause
-          c.in-ok-action.action c.kept.result c.in-ok-action.ensures
+          c.in_ok-action.action c.kept.result c.in_ok-action.ensures
           (λ given. (
             t,
             record {
@@ -49,10 +49,10 @@ returns g c =
               made_action = given;
               made_resource = refl;
               made_clause = refl;
-              made_slots = c.slots-of-slots.ensures ∙ parts_slots cs (g.met.B.ClauseBook.lawful c.args.clauses.now) t;
+              made_slots = c.slots_of-slots.ensures ∙ parts_slots cs (g.met.B.ClauseBook.lawful c.args.clauses.now) t;
             },
             c.kept.ensures,
           ));
-      within = within_made ts cs t c.kept.result c.kept.ensures (within-parts cs t c.slots-of-slots.ensures);
+      within = within_made ts cs t c.kept.result c.kept.ensures (within-parts cs t c.slots_of-slots.ensures);
       types = scan_decides;
     }
