@@ -1,6 +1,5 @@
 -- Values that are accepted are exact.
-use Rattle.std.proofs.Common.{◌≡◌, ℕ, Bool, true, false, cond, not, ◌&&◌, eqb, is_some, is_ok, Ok, Err, Result, sym, refl, ap, ◌∙◌}
-use Rattle.refusals.specs.declared.slots.SlotId.{SlotId}
+use Rattle.std.proofs.Common.{◌≡◌, Bool, true, false, cond, not, ◌&&◌, eqb, is_some, is_ok, Ok, Err, Result, sym, refl, ap, ◌∙◌}
 use Rattle.refusals.specs.declared.slots.SlotId.TheVariants.{Principal, Resource}
 use Rattle.refusals.specs.declared.slots.SlotSet.{SlotSet}
 use Rattle.refusals.specs.declared.refusal.Refusal.{Refusal}

@@ -1,16 +1,11 @@
 -- The laws of a filled policy.
-use Rattle.std.proofs.Common.{◌≡◌, Bool, true, false, cond, ◌&&◌, List, is_some, Option, sym, refl, ap, ◌∙◌}
+use Rattle.std.proofs.Common.{◌≡◌, Bool, true, cond, List, is_some, sym, ◌∙◌}
 use Rattle.std.proofs.lemmas.Bool.{and_parts, cond-true}
-use Rattle.refusals.specs.declared.slots.SlotId.{SlotId}
 use Rattle.refusals.specs.declared.slots.SlotId.TheVariants.{Principal, Resource}
-use Rattle.names.specs.declared.entity.EntityUID.{EntityUID}
 use Rattle.clauses.specs.Book.{Clause, Lawful}
-use Rattle.policy.specs.declared.values.SlotEnv.{SlotEnv}
-use Rattle.policy.specs.declared.template.Template.{Template}
 use Rattle.policy.specs.declared.bound.Policy.{Policy}
 use Rattle.policy.specs.Slots.{has}
-use Rattle.policy.specs.Meaning.{World, Holds, InScope}
-use Rattle.policy.specs.Filling.{fill, slotted, Iff}
+use Rattle.policy.specs.Filling.{slotted}
 use Rattle.policy.specs.Filled.{filled, scopes_within, FillsPolicy}
 use Rattle.policy.proofs.Exact.{policy_exact}
 use Rattle.policy.proofs.Fillings.{fills}

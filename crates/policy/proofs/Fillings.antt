@@ -1,5 +1,5 @@
 -- The laws of filling.
-use Rattle.std.proofs.Common.{◌≡◌, ℕ, Bool, true, false, List, is_some, Some, None, Option, sym, refl, ◌∙◌, subst}
+use Rattle.std.proofs.Common.{◌≡◌, true, false, List, is_some, Some, None, Option, sym, refl, ◌∙◌, subst}
 use Rattle.std.proofs.lemmas.Bool.{false≢true}
 use Rattle.names.specs.declared.entity.EntityUID.{EntityUID}
 use Rattle.policy.specs.declared.constraint.EntityReference.{EntityReference}

@@ -1,5 +1,5 @@
 -- A template is refused with its action, and made with it.
-use Rattle.std.proofs.Common.{◌≡◌, ℕ, Bool, true, false, ltb, List, length, IfOk, Ok, Err, MatchBool, Option, Result, sym, refl, ◌∙◌, subst, arith}
+use Rattle.std.proofs.Common.{◌≡◌, ℕ, Bool, true, false, ltb, List, length, IfOk, Ok, Err, MatchBool, Option, Result, sym, subst, arith}
 use Rattle.refusals.specs.declared.refusal.Refusal.{Refusal}
 use Rattle.refusals.specs.declared.refusal.Refusal.TheVariants.{TooManyActions}
 use Rattle.clauses.specs.Book.{Clause}

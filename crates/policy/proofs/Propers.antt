@@ -1,5 +1,5 @@
 -- A condition is one proper tree: each node stands over as many operands as it takes.
-use Rattle.std.proofs.Common.{◌≡◌, ℕ, suc, ◌+◌, Bool, List, [], ◌∷◌, length, Some, None, Option, sym, refl, ap, ◌∙◌, arith}
+use Rattle.std.proofs.Common.{◌≡◌, ℕ, ◌+◌, Bool, List, [], ◌∷◌, length, Some, None, Option, sym, refl, arith}
 use Rattle.refusals.specs.declared.slots.SlotId.TheVariants as slot
 use Rattle.names.specs.declared.entity.EntityUID.{EntityUID}
 use Rattle.clauses.specs.Book.{Clause, at, constant_of}
@@ -14,7 +14,7 @@ use Rattle.policy.specs.declared.template.Template.{Template}
 use Rattle.policy.specs.declared.node.ConditionNode.{ConditionNode}
 use Rattle.policy.specs.declared.node.ConditionNode.TheVariants as node
 use Rattle.policy.specs.Scopes.{listed}
-use Rattle.policy.specs.Condition.{arity, leaf, over_two, entities, constant, both, folded, and_tree, reference_node, scope_tree, principal_tree, resource_tree, set_tree, action_tree, constant_node, clause_node, condition_tree}
+use Rattle.policy.specs.Condition.{arity, leaf, over_two, entities, constant, both, folded, and_tree, reference_node, scope_tree, principal_tree, resource_tree, action_tree, constant_node, clause_node, condition_tree}
 
 abbrev pub Good : Tree ConditionNode → Type 0
 Good t = Proper arity (alone t)

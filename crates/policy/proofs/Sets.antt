@@ -1,5 +1,5 @@
 -- Slot sets by their members.
-use Rattle.std.proofs.Common.{◌≡◌, Bool, ◌||◌, sym, refl, ap, ◌∙◌}
+use Rattle.std.proofs.Common.{◌≡◌, Bool, ◌||◌, ap, ◌∙◌}
 use Rattle.refusals.specs.declared.slots.SlotId.{SlotId}
 use Rattle.refusals.specs.declared.slots.SlotId.TheVariants.{Principal, Resource}
 use Rattle.refusals.specs.declared.slots.SlotSet.{SlotSet}

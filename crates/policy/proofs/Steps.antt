@@ -1,5 +1,5 @@
 -- Nodes written one after the other.
-use Rattle.std.proofs.Common.{◌≡◌, ℕ, ◌+◌, ◌≤◌, List, [], ◌∷◌, ◌++◌, sym, refl, ap, ◌∙◌, append_assoc, arith}
+use Rattle.std.proofs.Common.{◌≡◌, ℕ, ◌+◌, ◌≤◌, List, ◌++◌, sym, refl, ap, ◌∙◌, append_assoc, arith}
 use Rattle.policy.specs.declared.node.ConditionNode.{ConditionNode}
 use Rattle.policy.specs.declared.nodes.NodeList.{NodeList}
 use Rattle.policy.specs.Nodes.{nodes_of, Wrote}

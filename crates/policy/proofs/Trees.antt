@@ -1,8 +1,8 @@
 -- The writing of the parts of a condition.
-use Rattle.std.proofs.Common.{◌≡◌, ℕ, List, [], ◌∷◌, ◌++◌, map, length, sym, refl, ap, ◌∙◌, append_assoc}
+use Rattle.std.proofs.Common.{◌≡◌, ℕ, List, [], ◌∷◌, ◌++◌, map, length, sym, ap, ◌∙◌, append_assoc}
 use Rattle.std.proofs.lemmas.List.{append-nil}
 use Rattle.names.specs.declared.entity.EntityUID.{EntityUID}
-use Rattle.clauses.specs.Tree.{Row, none, more, Tree, written, writing}
+use Rattle.clauses.specs.Tree.{Row, none, more, written, writing}
 use Rattle.policy.specs.declared.node.ConditionNode.{ConditionNode}
 use Rattle.policy.specs.declared.node.ConditionNode.TheVariants as node
 use Rattle.policy.specs.Condition.{leaf, over_two, entities, set_tree}

@@ -1,5 +1,5 @@
 -- The tests against the words.
-use Rattle.std.proofs.Common.{◌≡◌, ℕ, Bool, true, false, ◌&&◌, ◌||◌, eqb, ◌⊎◌, List, [], ◌∷◌, Some, None, Option, sym, refl, ap, ◌∙◌, subst, inl, inr}
+use Rattle.std.proofs.Common.{◌≡◌, ℕ, true, eqb, List, [], ◌∷◌, Some, None, Option, sym, refl, ap, ◌∙◌, subst, inl, inr}
 use Rattle.std.proofs.lemmas.Bool.{false≢true, and_parts, and_from, or_cases, or_left, or_right, eqb-true, eq-eqb}
 use Rattle.names.specs.declared.entity.EntityUID.{EntityUID}
 use Rattle.clauses.specs.Book.{Clause}
@@ -13,7 +13,7 @@ use Rattle.policy.specs.Scopes.{listed}
 use Rattle.policy.specs.Equality.{entity_equal}
 use Rattle.policy.specs.Hierarchy.{Edge, In, is_in}
 use Rattle.policy.specs.Value.{Value, boolean, entity, set, error, in_some}
-use Rattle.policy.specs.Meaning.{World, referred, Within, Member, WithinSome, Holds, HoldsAction, InScope, Evaluator, clause_value, HoldsClause, Applies}
+use Rattle.policy.specs.Meaning.{World, referred, Within, Member, WithinSome, Holds, HoldsAction, Evaluator, clause_value, HoldsClause, Applies}
 use Rattle.policy.specs.Condition.{condition_tree}
 use Rattle.policy.specs.Evaluation.{tree_value, Means}
 use Rattle.policy.proofs.Deciding.{entities, whenever}

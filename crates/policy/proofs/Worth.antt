@@ -1,5 +1,5 @@
 -- What the parts of a condition are worth, by tests.
-use Rattle.std.proofs.Common.{◌≡◌, ℕ, Bool, true, false, cond, ◌&&◌, ◌||◌, eqb, List, [], ◌∷◌, ◌++◌, Some, None, Option, sym, refl, ap, ◌∙◌}
+use Rattle.std.proofs.Common.{◌≡◌, ℕ, Bool, true, false, ◌&&◌, eqb, List, [], ◌∷◌, ◌++◌, Some, None, Option, sym, refl, ap, ◌∙◌}
 use Rattle.std.proofs.lemmas.List.{append-nil}
 use Rattle.refusals.specs.declared.slots.SlotId.TheVariants as slot
 use Rattle.names.specs.declared.entity.EntityUID.{EntityUID}
@@ -18,9 +18,9 @@ use Rattle.policy.specs.declared.node.ConditionNode.TheVariants as node
 use Rattle.policy.specs.Scopes.{listed}
 use Rattle.policy.specs.Equality.{entity_equal}
 use Rattle.policy.specs.Hierarchy.{Edge, is_in}
-use Rattle.policy.specs.Value.{Value, boolean, entity, set, error, slot_value, as_boolean, and_value, eq_value, in_some, entity_in, in_value, is_value, with_element}
+use Rattle.policy.specs.Value.{Value, boolean, entity, set, error, slot_value, as_boolean, and_value, eq_value, in_some, entity_in, in_value, is_value}
 use Rattle.policy.specs.Meaning.{World, referred, Evaluator, clause_value, KeepsConstants}
-use Rattle.policy.specs.Condition.{leaf, over_two, entities, constant, both, folded, and_tree, reference_node, scope_tree, principal_tree, resource_tree, set_tree, action_tree, constant_node, clause_node, condition_tree}
+use Rattle.policy.specs.Condition.{leaf, entities, constant, both, folded, and_tree, reference_node, scope_tree, principal_tree, resource_tree, action_tree, constant_node, clause_node, condition_tree}
 use Rattle.policy.specs.Evaluation.{set_value, node_value, row_values, tree_value}
 use Rattle.policy.proofs.Joined.{takes_none, some_both}
 

@@ -1,5 +1,5 @@
 -- Binding: each slot of the template is to have a value, and each value a slot.
-use Rattle.std.specs.Prelude.{◌≡◌, ℕ, Bool, cond, not, ◌&&◌, is_ok, Ok, Err, Decides, Option, Result, ◌==◌}
+use Rattle.std.specs.Prelude.{◌≡◌, ℕ, cond, not, ◌&&◌, is_ok, Ok, Err, Decides, Option, Result, ◌==◌}
 use Rattle.refusals.specs.declared.slots.SlotId.{SlotId}
 use Rattle.refusals.specs.declared.slots.SlotSet.{SlotSet}
 use Rattle.refusals.specs.declared.refusal.Refusal.{Refusal}

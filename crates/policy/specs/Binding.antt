@@ -1,5 +1,5 @@
 -- Values and the slots that they fill.
-use Rattle.std.specs.Prelude.{ℕ, ◌+◌, Bool, true, false, Some, None, Option, ◌==◌}
+use Rattle.std.specs.Prelude.{ℕ, ◌+◌, Bool, true, Some, None, Option, ◌==◌}
 use Rattle.names.specs.declared.entity.EntityUID.{EntityUID}
 use Rattle.policy.specs.declared.values.SlotEnv.{SlotEnv}
 

@@ -1,5 +1,5 @@
 -- What the public calls answer: `count` is the name book's count, `cs` the clauses of the clause book.
-use Rattle.std.specs.Prelude.{ℕ, Bool, List, Some, Ok, Err, Option, Result}
+use Rattle.std.specs.Prelude.{ℕ, Bool, List, Some, Ok, Option, Result}
 use Rattle.refusals.specs.declared.refusal.Refusal.{Refusal}
 use Rattle.names.specs.declared.entity.EntityUID.{EntityUID}
 use Rattle.clauses.specs.Book.{Clause, same_clause}

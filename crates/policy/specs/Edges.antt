@@ -1,5 +1,5 @@
 -- Edge cases of conditions, of binding and of sealed texts, by computation.
-use Rattle.std.specs.Prelude.{◌≡◌, ℕ, Bool, true, false, List, [], ◌∷◌, length, Some, None, Ok, Err, codes, Option, Result, refl}
+use Rattle.std.specs.Prelude.{◌≡◌, ℕ, true, false, List, [], ◌∷◌, length, Some, None, Ok, Err, codes, Option, Result, refl}
 use Rattle.std.proofs.Common.{lit≤}
 use Rattle.refusals.specs.Refusals.{number, values}
 use Rattle.refusals.specs.declared.slots.SlotId.TheVariants as slot
@@ -15,7 +15,6 @@ use Rattle.policy.specs.declared.constraint.PrincipalOrResourceConstraint.TheVar
 use Rattle.policy.specs.declared.action.ActionList.{ActionList}
 use Rattle.policy.specs.declared.action.ActionConstraint.{ActionConstraint}
 use Rattle.policy.specs.declared.action.ActionConstraint.TheVariants as action
-use Rattle.policy.specs.declared.template.Template.{Template}
 use Rattle.policy.specs.declared.node.ConditionNode.{ConditionNode}
 use Rattle.policy.specs.declared.node.ConditionNode.TheVariants as node
 use Rattle.policy.specs.Slots.{slots_where, slot_equal}

@@ -1,5 +1,5 @@
 -- When two templates are equal, and two policies.
-use Rattle.std.specs.Prelude.{◌≡◌, ℕ, Bool, true, false, ◌&&◌, List, [], ◌∷◌, Some, None, Option, ◌==◌, nat_eq}
+use Rattle.std.specs.Prelude.{ℕ, Bool, true, false, ◌&&◌, List, [], ◌∷◌, Some, None, Option, ◌==◌, nat_eq}
 use Rattle.names.specs.declared.entity.EntityUID.{EntityUID}
 use Rattle.policy.specs.declared.constraint.Effect.{Effect}
 use Rattle.policy.specs.declared.constraint.Effect.TheVariants.{Permit, Forbid}

@@ -1,5 +1,5 @@
 -- What a condition is worth for a request in a hierarchy, and the values of the slots.
-use Rattle.std.specs.Prelude.{◌≡◌, ℕ, Bool, true, List, [], ◌∷◌, Option}
+use Rattle.std.specs.Prelude.{◌≡◌, true, List, [], ◌∷◌, Option}
 use Rattle.refusals.specs.declared.slots.SlotId.{SlotId}
 use Rattle.refusals.specs.declared.slots.SlotId.TheVariants as slot
 use Rattle.names.specs.declared.entity.EntityUID.{EntityUID}

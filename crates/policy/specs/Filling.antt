@@ -1,5 +1,5 @@
 -- Filling the slot of a scope with its value.
-use Rattle.std.specs.Prelude.{◌≡◌, Bool, true, false, cond, List, is_some, Some, None, Option}
+use Rattle.std.specs.Prelude.{◌≡◌, Bool, true, false, List, is_some, Some, None, Option}
 use Rattle.names.specs.declared.entity.EntityUID.{EntityUID}
 use Rattle.policy.specs.declared.constraint.EntityReference.{EntityReference}
 use Rattle.policy.specs.declared.constraint.EntityReference.TheVariants.{EUID, Slot}

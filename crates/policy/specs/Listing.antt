@@ -1,5 +1,5 @@
 -- Making an action list.
-use Rattle.std.specs.Prelude.{ℕ, Bool, cond, List, length, Ok, Err, Result, nat_lt}
+use Rattle.std.specs.Prelude.{cond, List, length, Ok, Err, Result, nat_lt}
 use Rattle.refusals.specs.declared.refusal.Refusal.{Refusal}
 use Rattle.refusals.specs.declared.refusal.Refusal.TheVariants.{TooManyActions}
 use Rattle.names.specs.declared.entity.EntityUID.{EntityUID}

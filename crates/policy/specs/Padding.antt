@@ -1,5 +1,5 @@
 -- The places of an action list past its count.
-use Rattle.std.specs.Prelude.{ℕ, Bool, true, false, cond, List, [], ◌∷◌, ◌==◌}
+use Rattle.std.specs.Prelude.{Bool, true, false, cond, List, [], ◌∷◌, ◌==◌}
 use Rattle.names.specs.declared.entity.EntityUID.{EntityUID}
 
 -- Every place holds the entity 0, 0.

@@ -1,5 +1,5 @@
 -- Static policies: templates without slots.
-use Rattle.std.specs.Prelude.{◌≡◌, ℕ, Bool, true, cond, List, None, Ok, Err, Result}
+use Rattle.std.specs.Prelude.{ℕ, cond, List, None, Ok, Err, Result}
 use Rattle.refusals.specs.declared.slots.SlotId.TheVariants.{Principal, Resource}
 use Rattle.refusals.specs.declared.slots.SlotSet.{SlotSet}
 use Rattle.refusals.specs.declared.refusal.Refusal.{Refusal}

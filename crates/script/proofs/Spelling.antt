@@ -1,5 +1,5 @@
 -- What a word spells, read from its front.
-use Rattle.std.proofs.Common.{◌≡◌, ℕ, ◌<◌, ◌≤◌, Bool, cond, eqb, List, [], ◌∷◌, ◌++◌, length, get_or, drop, Some, None, Option, sym, refl, ap, ◌∙◌, append_assoc, arith, eq-eqb, ne_eqb}
+use Rattle.std.proofs.Common.{◌≡◌, ℕ, ◌<◌, ◌≤◌, Bool, cond, List, [], ◌∷◌, ◌++◌, length, get_or, drop, Some, None, Option, sym, refl, ap, ◌∙◌, append_assoc, arith, eq-eqb, ne_eqb}
 use Rattle.script.specs.Percent.{hex_value, hex_byte, coded, put, spelled, decoded}
 
 pub coded-at : (word : List ℕ) → 2 ≤ length word → coded word ≡ hex_byte (hex_value (get_or word 0 0)) (hex_value (get_or word 1 0))

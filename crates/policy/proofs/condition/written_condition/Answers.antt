@@ -1,9 +1,9 @@
-use Rattle.std.proofs.Common.{◌≡◌, List, [], ◌∷◌, ◌++◌, sym, refl, ap, ◌∙◌, append_assoc}
+use Rattle.std.proofs.Common.{◌≡◌, List, [], ◌∷◌, ◌++◌, ap, ◌∙◌, append_assoc}
 use Rattle.clauses.specs.Tree.{Tree, written}
 use Rattle.policy.specs.declared.node.ConditionNode.{ConditionNode}
 use Rattle.policy.specs.declared.nodes.NodeList.{NodeList}
 use Rattle.policy.specs.Condition.{leaf, and_tree, principal_tree, action_tree, resource_tree, clause_node}
-use Rattle.policy.specs.Nodes.{nodes_of, Wrote, Joins}
+use Rattle.policy.specs.Nodes.{nodes_of, Joins}
 use Rattle.policy.proofs.Propers.{Good, good_and, good_principal, good_action, good_resource, good_clause}
 use Rattle.policy.proofs.condition.written_condition.Goals as goal
 

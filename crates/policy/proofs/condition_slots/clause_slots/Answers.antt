@@ -1,4 +1,4 @@
-use Rattle.std.proofs.Common.{◌≡◌, ℕ, Option, sym, ap, ◌∙◌}
+use Rattle.std.proofs.Common.{ℕ, Option, sym, ap, ◌∙◌}
 use Rattle.policy.specs.Slots.{slots_where, has_bit}
 use Rattle.policy.specs.Mentions.{clause_has}
 use Rattle.policy.proofs.Sets.{as_slots}

@@ -1,4 +1,4 @@
-use Rattle.std.proofs.Common.{Bool, ◌&&◌}
+use Rattle.std.proofs.Common.{◌&&◌}
 use Rattle.refusals.specs.declared.slots.SlotId.TheVariants.{Principal, Resource}
 use Rattle.policy.specs.Filling.{slotted}
 use Rattle.policy.specs.Slots.{slot_equal}

@@ -1,4 +1,4 @@
-use Rattle.std.proofs.Common.{◌≡◌, ◌∙◌}
+use Rattle.std.proofs.Common.{◌∙◌}
 use Rattle.policy.proofs.Testing.{broke, stops, passes, template_tested}
 use Rattle.policy.proofs.known.known_names.Goals as goal
 

@@ -7,7 +7,6 @@ use Rattle.policy.specs.declared.action.ActionList.{ActionList}
 use Rattle.policy.specs.declared.action.ActionConstraint.{ActionConstraint}
 use Rattle.policy.specs.declared.action.ActionConstraint.TheVariants as action
 use Rattle.policy.specs.Scopes.{listed}
-use Rattle.policy.specs.Listing.{list_answer}
 use Rattle.policy.specs.Making.{GivenAction, MakesAction}
 use Rattle.policy.proofs.making.action_of.Goals as goal
 

@@ -1,4 +1,4 @@
-use Rattle.std.proofs.Common.{◌≡◌, ℕ, ◌-◌, ◌<◌, ◌≤◌, List, length, get_or, take, drop, Some, None, Option, sym, ap, ◌∙◌, arith, length-drop, Bor, rules, MatchOption}
+use Rattle.std.proofs.Common.{◌≡◌, ℕ, ◌-◌, ◌<◌, List, length, get_or, take, drop, Some, None, Option, sym, ap, ◌∙◌, arith, length-drop, Bor, rules, MatchOption}
 use Rattle.std.proofs.lemmas.List.{take_rest}
 use Rattle.script.specs.Percent.{coded, put, spelled}
 use Rattle.script.proofs.Spelling.{spelled-coded, spelled-plain}

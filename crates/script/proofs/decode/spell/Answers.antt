@@ -1,4 +1,4 @@
-use Rattle.std.proofs.Common.{ℕ, List, vec_items, Option, sym, ap, ◌∙◌}
+use Rattle.std.proofs.Common.{ℕ, List, vec_items, sym, ap, ◌∙◌}
 use Rattle.script.specs.Percent.{spelled}
 use Rattle.script.proofs.Spelling.{behind, behind_put}
 use Rattle.script.proofs.decode.spell.Goals as goal

@@ -1,4 +1,4 @@
-use Rattle.std.proofs.Common.{◌≡◌, ℕ, ◌+◌, ◌<◌, List, [], ◌∷◌, ◌++◌, length, get_or, take, IfOk, Some, Ok, Err, string_bytes, Result, sym, refl, ap, ◌∙◌, arith, take_all, true-eqb, false-eqb}
+use Rattle.std.proofs.Common.{◌≡◌, ℕ, ◌+◌, ◌<◌, List, [], ◌∷◌, ◌++◌, length, get_or, take, IfOk, Some, Ok, Err, string_bytes, Result, sym, ap, ◌∙◌, arith, take_all, true-eqb, false-eqb}
 use Rattle.std.specs.List.{flat_map}
 use Rattle.std.proofs.lemmas.List.{take_more, flat_map_more, nil_from_length}
 use Rattle.script.specs.declared.encode.Colon.{Colon}

@@ -1,4 +1,4 @@
-use Rattle.std.proofs.Common.{◌≡◌, ℕ, ◌<◌, List, length, None, sym, ap, ◌∙◌, arith, true-eqb, false-eqb}
+use Rattle.std.proofs.Common.{ℕ, ◌<◌, List, length, None, sym, ap, ◌∙◌, arith, true-eqb, false-eqb}
 use Rattle.std.proofs.lemmas.List.{nil_from_length}
 use Rattle.script.specs.Number.{numeral, at_most}
 use Rattle.script.proofs.Numerals.{numeral_continued, reads_back}

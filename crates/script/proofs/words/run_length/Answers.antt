@@ -1,5 +1,5 @@
 use Rattle.script.proofs.words.run_length.Goals as goal
-use Rattle.std.proofs.Common.{◌≡◌, ℕ, suc, ◌+◌, ◌<◌, ◌≤◌, Bool, true, false, cond, List, length, get_or, drop, sym, ap, ◌∙◌, arith}
+use Rattle.std.proofs.Common.{◌≡◌, ℕ, suc, ◌+◌, ◌<◌, Bool, true, false, cond, List, length, get_or, drop, sym, ap, ◌∙◌, arith}
 use mathlib.Core.Bool.{beq}
 use borrow.Author.Tests.{not-true, not-false}
 use Rattle.std.proofs.lemmas.List.{at_drop_more, at_drop_all}

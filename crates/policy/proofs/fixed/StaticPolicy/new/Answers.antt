@@ -1,4 +1,4 @@
-use Rattle.std.proofs.Common.{◌≡◌, ℕ, Bool, cond, Ok, Err, Result, refl, arith}
+use Rattle.std.proofs.Common.{◌≡◌, ℕ, cond, Ok, Err, Result, refl, arith}
 use Rattle.refusals.specs.declared.slots.SlotId.TheVariants.{Principal, Resource}
 use Rattle.refusals.specs.declared.slots.SlotSet.{SlotSet}
 use Rattle.refusals.specs.declared.refusal.Refusal.{Refusal}

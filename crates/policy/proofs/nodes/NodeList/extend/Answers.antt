@@ -1,6 +1,6 @@
-use Rattle.std.proofs.Common.{◌≡◌, ◌+◌, ◌-◌, List, ◌++◌, length, take, ap, ◌∙◌, arith, rules}
+use Rattle.std.proofs.Common.{◌+◌, ◌-◌, List, ◌++◌, length, take, ap, ◌∙◌, arith, rules}
 use Rattle.std.proofs.lemmas.Slice.{take-put_mid}
-use Rattle.std.proofs.lemmas.List.{places, length-append, length-take-le, length-drop}
+use Rattle.std.proofs.lemmas.List.{places}
 use Rattle.policy.specs.declared.node.ConditionNode.{ConditionNode}
 use Rattle.policy.proofs.nodes.NodeList.extend.Goals as goal
 

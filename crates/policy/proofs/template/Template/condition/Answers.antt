@@ -1,4 +1,4 @@
-use Rattle.std.proofs.Common.{◌≡◌, ℕ, List, length, Result, sym, refl, ap, ◌∙◌}
+use Rattle.std.proofs.Common.{ℕ, List, length, Result, sym, refl, ap, ◌∙◌}
 use Rattle.refusals.specs.declared.refusal.Refusal.{Refusal}
 use Rattle.clauses.specs.Book.{Clause}
 use Rattle.clauses.specs.Tree.{written, One}
