@@ -34,7 +34,7 @@ fn entities(heap: Global, word: &[u8], book: &mut NameBook) -> Result<Vec<Entity
 
 // any, eq:ENTITY, in:[ENTITY,ENTITY,...]
 pub fn action(heap: Global, word: &[u8], book: &mut NameBook) -> Result<ActionWord, Stop> {
-    if word == b"any" {
+    if word == b"any".as_slice() {
         return Ok(ActionWord::Any);
     }
     if let Some(rest) = word.strip_prefix(b"eq:") {

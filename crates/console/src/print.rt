@@ -31,6 +31,6 @@ pub fn push_id(line: &mut String, book: &NameBook, id: NameNumber) -> Result<(),
     let Ok(text) = book.text(id) else {
         return push_number(line, id as usize);
     };
-    let word = encode(line.allocator(), text, Colon::Coded)?;
+    let word = encode(*line.allocator(), text, Colon::Coded)?;
     push_word(line, word.as_str())
 }

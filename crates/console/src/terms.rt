@@ -73,7 +73,7 @@ pub fn scope(
     word: &[u8],
     book: &mut NameBook,
 ) -> Result<PrincipalOrResourceConstraint, Stop> {
-    if word == b"any" {
+    if word == b"any".as_slice() {
         return Ok(PrincipalOrResourceConstraint::Any);
     }
     let Some((kind, rest)) = split_once(word, b':') else {
@@ -99,7 +99,7 @@ pub fn effect(word: &[u8]) -> Result<Effect, Wrong> {
 
 // `-`, or the number of a clause
 pub fn clause(word: &[u8]) -> Result<Option<u16>, Wrong> {
-    if word == b"-" {
+    if word == b"-".as_slice() {
         return Ok(None);
     }
     match read_number(word, u16::MAX as u32) {
@@ -110,7 +110,7 @@ pub fn clause(word: &[u8]) -> Result<Option<u16>, Wrong> {
 
 // `-`, or the entity that a slot is given
 pub fn value(heap: Global, word: &[u8], book: &mut NameBook) -> Result<Option<EntityUID>, Stop> {
-    if word == b"-" {
+    if word == b"-".as_slice() {
         return Ok(None);
     }
     Ok(Some(entity(heap, word, book)?))

@@ -15,7 +15,7 @@ pub(crate) trait Keyed {
 
 // The place of the first row with the key.
 pub(crate) fn find<R: Keyed>(rows: &[R], key: NameNumber) -> Option<usize>
-    ensures { result ≡ position naming key rows.now }
+    ensures { result ≡ position R.naming key rows.now }
 {
     for i in 0..rows.len() {
         if rows[i].key() == key {
@@ -27,7 +27,7 @@ pub(crate) fn find<R: Keyed>(rows: &[R], key: NameNumber) -> Option<usize>
 
 // The first row with the key.
 pub(crate) fn get<R: Keyed + Copy>(rows: &[R], key: NameNumber) -> Option<R>
-    ensures { result ≡ lookup naming key rows.now }
+    ensures { result ≡ lookup R.naming key rows.now }
 {
     match find(rows, key) {
         Some(i) => Some(rows[i]),
@@ -59,7 +59,7 @@ pub(crate) fn remove<R: Keyed + Copy>(rows: &mut [R], used: usize, key: NameNumb
     requires { used ≤ length rows.old }
     ensures count { result ≤ used }
     ensures len { length rows.new ≡ length rows.old }
-    ensures after { take result rows.new ≡ erase naming key (take used rows.old) }
+    ensures after { take result rows.new ≡ erase R.naming key (take used rows.old) }
 {
     match find(&rows[0..used], key) {
         Some(i) => {
@@ -73,10 +73,10 @@ pub(crate) fn remove<R: Keyed + Copy>(rows: &mut [R], used: usize, key: NameNumb
 // Puts the row last among the first `used`, in the place of one with its key. The new count.
 pub(crate) fn put<R: Keyed + Copy>(rows: &mut [R], used: usize, row: R) -> usize
     requires used { used ≤ length rows.old }
-    requires room { lookup naming (naming row) (take used rows.old) ≡ None → used < length rows.old }
+    requires room { lookup R.naming (R.naming row) (take used rows.old) ≡ None → used < length rows.old }
     ensures count { result ≤ length rows.old }
     ensures len { length rows.new ≡ length rows.old }
-    ensures after { take result rows.new ≡ put_last naming row (take used rows.old) }
+    ensures after { take result rows.new ≡ put_last R.naming row (take used rows.old) }
 {
     let rest = remove(rows, used, row.key());
     append(rows, rest, row)

@@ -62,7 +62,7 @@ pub(crate) fn gather_ids<R: Keyed, T: Test<R>>(
 
 // 1 for a row that is a row more, else 0.
 fn one_more<R: Keyed>(live: &[R], ids: &[NameNumber], key: NameNumber) -> usize
-    ensures value { result ≡ one_if (is_more naming ids.now live.now key) }
+    ensures value { result ≡ one_if (is_more R.naming ids.now live.now key) }
     ensures small { result ≤ 1 }
 {
     if contains(ids, key) {
@@ -76,7 +76,7 @@ fn one_more<R: Keyed>(live: &[R], ids: &[NameNumber], key: NameNumber) -> usize
 
 // How many incoming rows are rows more.
 pub(crate) fn count_more<R: Keyed>(live: &[R], incoming: &[R], ids: &[NameNumber]) -> usize
-    ensures value { result ≡ rows_more naming ids.now live.now incoming.now }
+    ensures value { result ≡ rows_more R.naming ids.now live.now incoming.now }
     ensures small { result ≤ length incoming.now }
 {
     let mut n = 0;

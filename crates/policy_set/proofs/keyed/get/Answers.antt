@@ -2,8 +2,8 @@ use Rattle.std.proofs.Common.{Some, sym, ap, ◌∙◌, arith}
 use Rattle.policy_set.proofs.Places.{found_at, missed_from}
 use Rattle.policy_set.proofs.keyed.get.Goals as goal
 
-pub offset-bounds-rows-i : goal.offset-bounds-rows-i
-offset-bounds-rows-i g c =
+pub offset_bounds-rows-i : goal.offset_bounds-rows-i
+offset_bounds-rows-i g c =
     let h = found_at g.R.Keyed.naming c.args.key c.args.rows.now c.in-Some.i (sym c.in-Some.ensures) in
     omega (arith, h.within)
 

@@ -4,8 +4,8 @@ use Rattle.policy_set.proofs.Places.{found_in, found_below, missed_in}
 use Rattle.policy_set.proofs.Shifts.{removed_front}
 use Rattle.policy_set.proofs.keyed.remove.Goals as goal
 
-pub move-last-requires : goal.move-last-requires
-move-last-requires g c =
+pub move_last-requires : goal.move_last-requires
+move_last-requires g c =
     let rows = c.args.rows.now in
     let f = found_in g.R.Keyed.naming c.args.key rows c.args.used c.in-Some.i c.requires c.in-Some.ensures in
     omega (arith, found_below g.R.Keyed.naming c.args.key rows c.args.used c.in-Some.i c.requires f, length-take-le c.args.used rows c.requires)
@@ -17,8 +17,8 @@ returns-in-Some g c =
     record {
       count = omega arith;
       len = search (rules, places);
-      after = removed_front rows c.move-last.new.rows _ c.args.used c.in-Some.i
-          (found_below g.R.Keyed.naming c.args.key rows c.args.used c.in-Some.i c.requires f) c.requires c.move-last.ensures ∙ sym f.erased;
+      after = removed_front rows c.move_last.new.rows _ c.args.used c.in-Some.i
+          (found_below g.R.Keyed.naming c.args.key rows c.args.used c.in-Some.i c.requires f) c.requires c.move_last.ensures ∙ sym f.erased;
     }
 
 pub returns-in-None : goal.returns-in-None

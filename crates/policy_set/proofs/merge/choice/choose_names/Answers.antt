@@ -26,7 +26,7 @@ loop-i-preserved c =
           (omega (arith, c.requires.pairs, c.loop-i.auto.pairs)) c.in-Some.ensures.value
           ∙ c.loop-i.invariant.1,
       texts_more ts taken 65536 c.loop-i.fresh c.loop-i.counter c.args.ids.now c.loop-i.i (take c.loop-i.fresh c.loop-i.news)
-          (take c.in-Some.t.fresh c.note-text.new.news) c.in-Some.t c.loop-i-test.true c.in-Some.ensures.value c.note-text.ensures
+          (take c.in-Some.t.fresh c.note_text.new.news) c.in-Some.t c.loop-i-test.true c.in-Some.ensures.value c.note_text.ensures
           ∙ c.loop-i.invariant.2,
     )
 

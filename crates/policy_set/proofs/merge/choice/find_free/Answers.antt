@@ -5,11 +5,11 @@ use Rattle.policy_set.specs.Meaning.{maps_of}
 use Rattle.policy_set.proofs.Choices.{free_hit, free_miss}
 use Rattle.policy_set.proofs.merge.choice.find_free.Goals as goal
 
-pub returns-then-not-is-bound : goal.returns-then-not-is-bound
-returns-then-not-is-bound c = record {
+pub returns-then-not-is_bound : goal.returns-then-not-is_bound
+returns-then-not-is_bound c = record {
   value = sym (free_hit (texts c.args.names.now) (taken_by (maps_of c.args.sets.now.live.now) (maps_of c.args.sets.now.incoming.now)) 65536
       c.args.fresh c.loop-counter.counter c.attempt-t.result c.loop-counter-test.true c.attempt-t.ensures.value
-      (sym c.if-not-is-bound.true ∙ c.is-bound.ensures))
+      (sym c.if-not-is_bound.true ∙ c.is_bound.ensures))
       ∙ c.loop-counter.invariant;
   next = c.attempt-t.ensures.next;
 }
@@ -18,5 +18,5 @@ pub loop-counter-preserved : goal.loop-counter-preserved
 loop-counter-preserved c =
     free_miss (texts c.args.names.now) (taken_by (maps_of c.args.sets.now.live.now) (maps_of c.args.sets.now.incoming.now)) 65536
     c.args.fresh c.loop-counter.counter c.attempt-t.result c.loop-counter-test.true c.attempt-t.ensures.value
-    (sym c.if-not-is-bound.false ∙ c.is-bound.ensures)
+    (sym c.if-not-is_bound.false ∙ c.is_bound.ensures)
     ∙ c.loop-counter.invariant

@@ -6,6 +6,6 @@ use Rattle.policy_set.proofs.merge.choice.number.Goals as goal
 
 pub returns : goal.returns
 returns c =
-    let w = c.write-candidate-start in
+    let w = c.write_candidate-start in
     c.find.ensures
     ∙ ap (λ (text : List ℕ). number_of text (texts c.args.names.now)) (written c.args.counter w.result w.new.text w.auto.text w.ensures.after)

@@ -6,7 +6,7 @@ use Rattle.policy_set.proofs.merge.enter.enter.Goals as goal
 
 pub returns : goal.returns
 returns c =
-    let w = c.write-candidate-start in
+    let w = c.write_candidate-start in
     let book = c.args.names.now in
     record {
       texts = c.name.ensures.after

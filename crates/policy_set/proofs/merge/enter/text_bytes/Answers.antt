@@ -9,8 +9,8 @@ loop-i-preserved c =
     let e : bytes_in (candidates (drop c.loop-i.i c.args.news.now))
     ≡ length (candidate (get_or c.args.news.now c.loop-i.i 0)) + bytes_in (candidates (drop (c.loop-i.i + 1) c.args.news.now)) =
     at_drop_more (λ (ns : List ℕ). bytes_in (candidates ns)) c.args.news.now c.loop-i.i 0 c.loop-i-test.true in (
-      omega (arith, c.loop-i.invariant.0, c.text-len-bytes.ensures.small),
-      omega (arith, e, c.loop-i.invariant.1, c.text-len-bytes.ensures.value),
+      omega (arith, c.loop-i.invariant.0, c.text_len-bytes.ensures.small),
+      omega (arith, e, c.loop-i.invariant.1, c.text_len-bytes.ensures.value),
     )
 
 pub returns : goal.returns

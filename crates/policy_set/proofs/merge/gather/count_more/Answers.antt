@@ -6,9 +6,9 @@ use Rattle.policy_set.proofs.merge.gather.count_more.Goals as goal
 
 pub loop-i-preserved : goal.loop-i-preserved
 loop-i-preserved g c = (
-  omega (arith, c.loop-i.invariant.0, c.one-more-n.ensures.small),
-  count_turn g.R.Keyed.naming c.args.ids.now c.args.live.now c.args.incoming.now c.loop-i.n c.one-more-n.result c.loop-i.i
-      c.index-incoming-i.result c.key.result c.loop-i-test.true c.index-incoming-i.is c.key.ensures c.one-more-n.ensures.value
+  omega (arith, c.loop-i.invariant.0, c.one_more-n.ensures.small),
+  count_turn g.R.Keyed.naming c.args.ids.now c.args.live.now c.args.incoming.now c.loop-i.n c.one_more-n.result c.loop-i.i
+      c.index-incoming-i.result c.key.result c.loop-i-test.true c.index-incoming-i.is c.key.ensures c.one_more-n.ensures.value
       ∙ c.loop-i.invariant.1,
 )
 

@@ -6,10 +6,10 @@ use Rattle.policy_set.proofs.merge.gather.gather_ids.Goals as goal
 
 pub loop-i-preserved : goal.loop-i-preserved
 loop-i-preserved g c = (
-  omega (arith, c.note-id-n.ensures.count, c.note-id-n.ensures.len),
-  gather_turn g.R.Keyed.naming (g.T.Test.asks c.args.test.now) (take c.loop-i.n c.loop-i.ids) (take c.note-id-n.result c.note-id-n.new.ids)
+  omega (arith, c.note_id-n.ensures.count, c.note_id-n.ensures.len),
+  gather_turn g.R.Keyed.naming (g.T.Test.asks c.args.test.now) (take c.loop-i.n c.loop-i.ids) (take c.note_id-n.result c.note_id-n.new.ids)
       c.args.rows.now c.loop-i.i c.index-rows-i.result c.test-wanted.result c.key-id.result c.loop-i-test.true c.index-rows-i.is
-      c.test-wanted.ensures c.key-id.ensures c.note-id-n.ensures.after
+      c.test-wanted.ensures c.key-id.ensures c.note_id-n.ensures.after
       ∙ c.loop-i.invariant.1,
 )
 
@@ -21,8 +21,8 @@ returns g c = record {
       ∙ c.loop-i.invariant.1;
 }
 
-pub note-id-n-requires : goal.note-id-n-requires
-note-id-n-requires g c = record {
+pub note_id-n-requires : goal.note_id-n-requires
+note_id-n-requires g c = record {
   used = c.loop-i.invariant.0;
   room = gather_room g.R.Keyed.naming (g.T.Test.asks c.args.test.now) (take c.loop-i.n c.loop-i.ids) _ c.args.rows.now c.loop-i.i
       c.index-rows-i.result c.test-wanted.result c.key-id.result _ c.loop-i-test.true c.index-rows-i.is c.test-wanted.ensures c.key-id.ensures

@@ -32,41 +32,41 @@ grant cs same set p lawful n = granted same (maps_of set) (sound set) (kept_in s
   unlinked = p.unlinked;
 }
 
-pub or-insert-requires : goal.or-insert-requires
-or-insert-requires g c =
+pub or_insert-requires : goal.or_insert-requires
+or_insert-requires g c =
     let cs = g.B.ClauseBook.listed c.args.clauses.now in
-    (new_policy (length (texts c.args.names.now)) cs (same_clause g.B.ClauseBook.equal cs) (maps_of c.args.self.now) c.args.policy c.in-ok-can-add.ensures).template_room
+    (new_policy (length (texts c.args.names.now)) cs (same_clause g.B.ClauseBook.equal cs) (maps_of c.args.self.now) c.args.policy c.in_ok-can_add.ensures).template_room
 
 pub push-requires : goal.push-requires
 push-requires g c =
     let set = c.args.self.now in
     let cs = g.B.ClauseBook.listed c.args.clauses.now in
-    let n = new_policy (length (texts c.args.names.now)) cs (same_clause g.B.ClauseBook.equal cs) (maps_of set) c.args.policy c.in-ok-can-add.ensures in
-    record { room = n.policy_room; new = ap (λ (r : PolicyRow). row_at (maps_of set) r.id) c.row-for-row.ensures ∙ n.policy_free }
+    let n = new_policy (length (texts c.args.names.now)) cs (same_clause g.B.ClauseBook.equal cs) (maps_of set) c.args.policy c.in_ok-can_add.ensures in
+    record { room = n.policy_room; new = ap (λ (r : PolicyRow). row_at (maps_of set) r.id) c.row_for-row.ensures ∙ n.policy_free }
 
 pub push-requires-2 : goal.push-requires-2
 push-requires-2 g c =
     let set = c.args.self.now in
     let cs = g.B.ClauseBook.listed c.args.clauses.now in
-    let n = new_policy (length (texts c.args.names.now)) cs (same_clause g.B.ClauseBook.equal cs) (maps_of set) c.args.policy c.in-ok-can-add.ensures in
+    let n = new_policy (length (texts c.args.names.now)) cs (same_clause g.B.ClauseBook.equal cs) (maps_of set) c.args.policy c.in_ok-can_add.ensures in
     record {
       room = omega (arith, n.policy_room, as_many (maps_of set) (sound set));
-      new = no_member (maps_of set) (sound set) c.row-for-row.result.id (ap (λ (r : PolicyRow). row_at (maps_of set) r.id) c.row-for-row.ensures ∙ n.policy_free);
+      new = no_member (maps_of set) (sound set) c.row_for-row.result.id (ap (λ (r : PolicyRow). row_at (maps_of set) r.id) c.row_for-row.ensures ∙ n.policy_free);
     }
 
-pub invariant-of-self : goal.invariant-of-self
-invariant-of-self g c =
+pub invariant_of-self : goal.invariant_of-self
+invariant_of-self g c =
     let set = c.args.self.now in
     let p = c.args.policy in
     let cs = g.B.ClauseBook.listed c.args.clauses.now in
     let same = same_clause g.B.ClauseBook.equal cs in
-    let n = new_policy (length (texts c.args.names.now)) cs same (maps_of set) p c.in-ok-can-add.ensures in
-    let k = kept_as (with_policy (row_for (parts p)) (with_or_inserted p.template (maps_of set))) (templates_in c.or-insert.new.self) (policies_in c.push.new.self) (members_in c.push-2.new.self)
-    c.or-insert.ensures
-    (c.push.ensures ∙ ap (λ (r : PolicyRow). policies_in set.policies ++ r ∷ []) c.row-for-row.ensures)
-    (c.push-2.ensures ∙ ap (λ (r : PolicyRow). members_in set.members ++ member r ∷ []) c.row-for-row.ensures)
+    let n = new_policy (length (texts c.args.names.now)) cs same (maps_of set) p c.in_ok-can_add.ensures in
+    let k = kept_as (with_policy (row_for (parts p)) (with_or_inserted p.template (maps_of set))) (templates_in c.or_insert.new.self) (policies_in c.push.new.self) (members_in c.push-2.new.self)
+    c.or_insert.ensures
+    (c.push.ensures ∙ ap (λ (r : PolicyRow). policies_in set.policies ++ r ∷ []) c.row_for-row.ensures)
+    (c.push-2.ensures ∙ ap (λ (r : PolicyRow). members_in set.members ++ member r ∷ []) c.row_for-row.ensures)
     (grant cs same set p (g.met.B.ClauseBook.lawful c.args.clauses.now) n).kept in
-    (k.one, (k.values, (k.scopes, (k.members, tt))))
+    record { names_one = k.one; valued = k.values; scoped = k.scopes; same_members = k.members }
 
 pub returns : goal.returns
 returns g c =
@@ -74,14 +74,14 @@ returns g c =
     let p = c.args.policy in
     let cs = g.B.ClauseBook.listed c.args.clauses.now in
     let same = same_clause g.B.ClauseBook.equal cs in
-    let n = new_policy (length (texts c.args.names.now)) cs same (maps_of set) p c.in-ok-can-add.ensures in
+    let n = new_policy (length (texts c.args.names.now)) cs same (maps_of set) p c.in_ok-can_add.ensures in
     let after = with_policy (row_for (parts p)) (with_or_inserted p.template (maps_of set)) in
-    let e = maps_equal after (templates_in c.or-insert.new.self) (policies_in c.push.new.self) (members_in c.push-2.new.self)
-    c.or-insert.ensures
-    (c.push.ensures ∙ ap (λ (r : PolicyRow). policies_in set.policies ++ r ∷ []) c.row-for-row.ensures)
-    (c.push-2.ensures ∙ ap (λ (r : PolicyRow). members_in set.members ++ member r ∷ []) c.row-for-row.ensures) in
+    let e = maps_equal after (templates_in c.or_insert.new.self) (policies_in c.push.new.self) (members_in c.push-2.new.self)
+    c.or_insert.ensures
+    (c.push.ensures ∙ ap (λ (r : PolicyRow). policies_in set.policies ++ r ∷ []) c.row_for-row.ensures)
+    (c.push-2.ensures ∙ ap (λ (r : PolicyRow). members_in set.members ++ member r ∷ []) c.row_for-row.ensures) in
     record {
-      answer = c.in-ok-can-add.ensures;
-      after = e ∙ accepted_after (add_answer (length (texts c.args.names.now)) cs same (maps_of set) p) after (maps_of set) tt c.in-ok-can-add.ensures;
+      answer = c.in_ok-can_add.ensures;
+      after = e ∙ accepted_after (add_answer (length (texts c.args.names.now)) cs same (maps_of set) p) after (maps_of set) tt c.in_ok-can_add.ensures;
       law = subst (λ (m : Maps). Grants same (maps_of set) m (parts p)) (sym e) (grant cs same set p (g.met.B.ClauseBook.lawful c.args.clauses.now) n).law;
     }

@@ -11,7 +11,7 @@ use Rattle.policy_set.proofs.set.PolicySet.all_templates.Goals as goal
 pub returns : goal.returns
 returns c = record {
   answer =
-      c.id-of.ensures ∙ ap (changed template_id) c.nth-passing.ensures
+      c.id_of.ensures ∙ ap (changed template_id) c.nth_passing.ensures
       ∙ ap (λ rows. changed template_id (slice_get (filter any_row rows) c.args.place)) c.rows.ensures
       ∙ sym (at_all template_id (templates_in c.args.self.now.templates) c.args.place);
   lists = lists template_id any_row (templates_in c.args.self.now.templates) _ c.args.self.now.templates.once

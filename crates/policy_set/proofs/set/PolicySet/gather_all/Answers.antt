@@ -11,8 +11,8 @@ use Rattle.policy_set.proofs.set.PolicySet.gather_all.Goals as goal
 few : {X : Type 0} (n most : ℕ) (rows held : List X) → held ≡ take n rows → n ≤ most → length held ≤ most
 few n most rows held e h = omega (arith, ap length e, length-take n rows)
 
-pub gather-ids-a-requires : goal.gather-ids-a-requires
-gather-ids-a-requires g c =
+pub gather_ids-a-requires : goal.gather_ids-a-requires
+gather_ids-a-requires g c =
     let i = c.args.incoming.now in
     let live = maps_of c.args.self.now in
     let same = same_clause g.B.ClauseBook.equal (g.B.ClauseBook.listed c.args.clauses.now) in
@@ -22,57 +22,57 @@ gather-ids-a-requires g c =
       room = omega (arith, c.requires, pass_length template_id (unequal_template same live) [] _ c.rows-templates.result.now 0 64 (omega arith) ts refl);
     }
 
-pub gather-ids-b-requires : goal.gather-ids-b-requires
-gather-ids-b-requires g c =
+pub gather_ids-b-requires : goal.gather_ids-b-requires
+gather_ids-b-requires g c =
     let i = c.args.incoming.now in
     let live = maps_of c.args.self.now in
     let same = same_clause g.B.ClauseBook.equal (g.B.ClauseBook.listed c.args.clauses.now) in
     let ts = few i.templates.used 64 i.templates.rows c.rows-templates.result.now c.rows-templates.ensures i.templates.room in
     let ps = few i.policies.used 256 i.policies.rows c.rows-policies.result.now c.rows-policies.ensures i.policies.room in
-    let a = pass_length template_id (unequal_template same live) [] _ c.rows-templates.result.now 0 64 (omega arith) ts c.gather-ids-a.ensures.after in
+    let a = pass_length template_id (unequal_template same live) [] _ c.rows-templates.result.now 0 64 (omega arith) ts c.gather_ids-a.ensures.after in
     record {
-      used = omega (arith, c.gather-ids-a.ensures.count, c.gather-ids-a.ensures.len);
-      room = omega (arith, c.requires, c.gather-ids-a.ensures.len, pass_length policy_id (unequal_policy same live (maps_of i)) (take c.gather-ids-a.result c.gather-ids-a.new.ids) _ c.rows-policies.result.now 64 256 a ps refl);
+      used = omega (arith, c.gather_ids-a.ensures.count, c.gather_ids-a.ensures.len);
+      room = omega (arith, c.requires, c.gather_ids-a.ensures.len, pass_length policy_id (unequal_policy same live (maps_of i)) (take c.gather_ids-a.result c.gather_ids-a.new.ids) _ c.rows-policies.result.now 64 256 a ps refl);
     }
 
-pub gather-ids-c-requires : goal.gather-ids-c-requires
-gather-ids-c-requires g c =
+pub gather_ids-c-requires : goal.gather_ids-c-requires
+gather_ids-c-requires g c =
     let i = c.args.incoming.now in
     let live = maps_of c.args.self.now in
     let same = same_clause g.B.ClauseBook.equal (g.B.ClauseBook.listed c.args.clauses.now) in
     let ts = few i.templates.used 64 i.templates.rows c.rows-templates.result.now c.rows-templates.ensures i.templates.room in
     let ps = few i.policies.used 256 i.policies.rows c.rows-policies.result.now c.rows-policies.ensures i.policies.room in
-    let a = pass_length template_id (unequal_template same live) [] _ c.rows-templates.result.now 0 64 (omega arith) ts c.gather-ids-a.ensures.after in
-    let b = pass_length policy_id (unequal_policy same live (maps_of i)) (take c.gather-ids-a.result c.gather-ids-a.new.ids) _ c.rows-policies.result.now 64 256 a ps c.gather-ids-b.ensures.after in
+    let a = pass_length template_id (unequal_template same live) [] _ c.rows-templates.result.now 0 64 (omega arith) ts c.gather_ids-a.ensures.after in
+    let b = pass_length policy_id (unequal_policy same live (maps_of i)) (take c.gather_ids-a.result c.gather_ids-a.new.ids) _ c.rows-policies.result.now 64 256 a ps c.gather_ids-b.ensures.after in
     record {
-      used = omega (arith, c.gather-ids-b.ensures.count, c.gather-ids-b.ensures.len);
+      used = omega (arith, c.gather_ids-b.ensures.count, c.gather_ids-b.ensures.len);
       room = omega (
         arith,
         c.requires,
-        c.gather-ids-a.ensures.len,
-        c.gather-ids-b.ensures.len,
-        pass_length template_id (template_on_policy live) (take c.gather-ids-b.result c.gather-ids-b.new.ids) _ c.rows-templates.result.now 320 64 b ts refl,
+        c.gather_ids-a.ensures.len,
+        c.gather_ids-b.ensures.len,
+        pass_length template_id (template_on_policy live) (take c.gather_ids-b.result c.gather_ids-b.new.ids) _ c.rows-templates.result.now 320 64 b ts refl,
       );
     }
 
-pub gather-ids-requires : goal.gather-ids-requires
-gather-ids-requires g c =
+pub gather_ids-requires : goal.gather_ids-requires
+gather_ids-requires g c =
     let i = c.args.incoming.now in
     let live = maps_of c.args.self.now in
     let same = same_clause g.B.ClauseBook.equal (g.B.ClauseBook.listed c.args.clauses.now) in
     let ts = few i.templates.used 64 i.templates.rows c.rows-templates.result.now c.rows-templates.ensures i.templates.room in
     let ps = few i.policies.used 256 i.policies.rows c.rows-policies.result.now c.rows-policies.ensures i.policies.room in
-    let a = pass_length template_id (unequal_template same live) [] _ c.rows-templates.result.now 0 64 (omega arith) ts c.gather-ids-a.ensures.after in
-    let b = pass_length policy_id (unequal_policy same live (maps_of i)) (take c.gather-ids-a.result c.gather-ids-a.new.ids) _ c.rows-policies.result.now 64 256 a ps c.gather-ids-b.ensures.after in
-    let d = pass_length template_id (template_on_policy live) (take c.gather-ids-b.result c.gather-ids-b.new.ids) _ c.rows-templates.result.now 320 64 b ts c.gather-ids-c.ensures.after in
+    let a = pass_length template_id (unequal_template same live) [] _ c.rows-templates.result.now 0 64 (omega arith) ts c.gather_ids-a.ensures.after in
+    let b = pass_length policy_id (unequal_policy same live (maps_of i)) (take c.gather_ids-a.result c.gather_ids-a.new.ids) _ c.rows-policies.result.now 64 256 a ps c.gather_ids-b.ensures.after in
+    let d = pass_length template_id (template_on_policy live) (take c.gather_ids-b.result c.gather_ids-b.new.ids) _ c.rows-templates.result.now 320 64 b ts c.gather_ids-c.ensures.after in
     record {
-      used = omega (arith, c.gather-ids-c.ensures.count, c.gather-ids-c.ensures.len);
+      used = omega (arith, c.gather_ids-c.ensures.count, c.gather_ids-c.ensures.len);
       room = omega (
         arith,
         c.requires,
-        c.gather-ids-a.ensures.len,
-        c.gather-ids-b.ensures.len,
-        c.gather-ids-c.ensures.len,
-        pass_length policy_id (link_on_template live) (take c.gather-ids-c.result c.gather-ids-c.new.ids) _ c.rows-policies.result.now 384 256 d ps refl,
+        c.gather_ids-a.ensures.len,
+        c.gather_ids-b.ensures.len,
+        c.gather_ids-c.ensures.len,
+        pass_length policy_id (link_on_template live) (take c.gather_ids-c.result c.gather_ids-c.new.ids) _ c.rows-policies.result.now 384 256 d ps refl,
       );
     }

@@ -11,6 +11,6 @@ use Rattle.policy_set.proofs.set.PolicySet.get_linked_policies.Goals as goal
 
 pub returns : goal.returns
 returns c = record {
-  answer = c.linked-policy.ensures;
+  answer = c.linked_policy.ensures;
   lists = lists member_id (is_under c.args.id) (members_in c.args.self.now.members) _ c.args.self.now.members.once (λ place. refl);
 }

@@ -17,17 +17,17 @@ use Rattle.policy_set.proofs.MergeSteps.{Ready, ready, finds_names, few_rows, fi
 use Rattle.policy_set.proofs.Sets.{sound}
 use Rattle.policy_set.proofs.set.PolicySet.merge_policyset.Goals as goal
 
-pub returns-in-err-plan : goal.returns-in-err-plan
-returns-in-err-plan g c =
+pub returns-in_err-plan : goal.returns-in_err-plan
+returns-in_err-plan g c =
     let live = maps_of c.args.self.now in
     let inc = maps_of c.args.incoming.now in
     let same = same_clause g.B.ClauseBook.equal (g.B.ClauseBook.listed c.args.clauses.now) in
     let ts = texts c.args.names.now in
     let ls = limits c.args.names.now in
-    let out = merge_outcome ls ts same live inc c.args.rename-duplicates (length c.args.pairs.now) in
-    let p = err_from_is_err_and c.from-residual.result c.from-residual.ensures.1 in
-    let e : Err c.in-err-plan.field-0.0 ≡ out = c.in-err-plan.ensures.value in
-    let f : c.from-residual.result ≡ merge_answer out = p.1 ∙ (ap Err p.2 ∙ ap merge_answer e) in
+    let out = merge_outcome ls ts same live inc c.args.rename_duplicates (length c.args.pairs.now) in
+    let p = err_from_is_err_and c.from_residual.result c.from_residual.ensures.1 in
+    let e : Err c.in_err-plan.field-0.0 ≡ out = c.in_err-plan.ensures.value in
+    let f : c.from_residual.result ≡ merge_answer out = p.1 ∙ (ap Err p.2 ∙ ap merge_answer e) in
     record {
       answer = f;
       after = ap (λ (o : Result (List Renaming) Refusal). merge_after o live inc) e;
@@ -35,8 +35,8 @@ returns-in-err-plan g c =
       texts = ap (λ (o : Result (List Renaming) Refusal). merge_texts o ts same live inc) e;
       limits = refl;
       law = rw p.1 refl;
-      new-names = rw p.1 tt;
-      finds_names = few_rows c.args.self.now c.args.incoming.now ls ts same c.args.rename-duplicates (length c.args.pairs.now) c.from-residual.result f;
+      new_names = rw p.1 tt;
+      finds_names = few_rows c.args.self.now c.args.incoming.now ls ts same c.args.rename_duplicates (length c.args.pairs.now) c.from_residual.result f;
     }
 
 -- the accepted plan
@@ -50,23 +50,23 @@ plan_ready live incoming same book rename room n chosen e =
 pub apply-requires : goal.apply-requires
 apply-requires g c =
     let same = same_clause g.B.ClauseBook.equal (g.B.ClauseBook.listed c.args.clauses.now) in
-    let r = plan_ready c.args.self.now c.args.incoming.now same c.args.names.now c.args.rename-duplicates (length c.args.pairs.now)
-    c.in-ok-plan.plan.pairs c.plan.new.pairs c.in-ok-plan.ensures.value in
+    let r = plan_ready c.args.self.now c.args.incoming.now same c.args.names.now c.args.rename_duplicates (length c.args.pairs.now)
+    c.in_ok-plan.plan.pairs c.plan.new.pairs c.in_ok-plan.ensures.value in
     record {
       templates = r.templates;
       policies = r.policies;
       members = r.members;
-      names-one = r.kept.one;
+      names_one = r.kept.one;
       valued = r.kept.values;
       scoped = r.kept.scopes;
-      same-members = r.kept.members;
+      same_members = r.kept.members;
     }
 
-pub hand-out-requires : goal.hand-out-requires
-hand-out-requires g c =
+pub hand_out-requires : goal.hand_out-requires
+hand_out-requires g c =
     let same = same_clause g.B.ClauseBook.equal (g.B.ClauseBook.listed c.args.clauses.now) in
-    (plan_ready c.args.self.now c.args.incoming.now same c.args.names.now c.args.rename-duplicates (length c.args.pairs.now)
-    c.in-ok-plan.plan.pairs c.plan.new.pairs c.in-ok-plan.ensures.value).buffer
+    (plan_ready c.args.self.now c.args.incoming.now same c.args.names.now c.args.rename_duplicates (length c.args.pairs.now)
+    c.in_ok-plan.plan.pairs c.plan.new.pairs c.in_ok-plan.ensures.value).buffer
 
 pub returns : goal.returns
 returns g c =
@@ -75,26 +75,26 @@ returns g c =
     let same = same_clause g.B.ClauseBook.equal (g.B.ClauseBook.listed c.args.clauses.now) in
     let ts = texts c.args.names.now in
     let ls = limits c.args.names.now in
-    let n = c.in-ok-plan.plan.pairs in
-    let fresh = c.in-ok-plan.plan.news in
+    let n = c.in_ok-plan.plan.pairs in
+    let fresh = c.in_ok-plan.plan.news in
     let pairs = take (n - 0) c.plan.new.pairs in
-    let out = merge_outcome ls ts same live inc c.args.rename-duplicates (length c.args.pairs.now) in
-    let r = plan_ready c.args.self.now c.args.incoming.now same c.args.names.now c.args.rename-duplicates (length c.args.pairs.now) n c.plan.new.pairs c.in-ok-plan.ensures.value in
-    let e : Ok pairs ≡ out = ap (λ m. Ok (take m c.plan.new.pairs)) (sub-zero n) ∙ c.in-ok-plan.ensures.value in
+    let out = merge_outcome ls ts same live inc c.args.rename_duplicates (length c.args.pairs.now) in
+    let r = plan_ready c.args.self.now c.args.incoming.now same c.args.names.now c.args.rename_duplicates (length c.args.pairs.now) n c.plan.new.pairs c.in_ok-plan.ensures.value in
+    let e : Ok pairs ≡ out = ap (λ m. Ok (take m c.plan.new.pairs)) (sub-zero n) ∙ c.in_ok-plan.ensures.value in
     let l : length pairs ≡ n =
-    ap (λ m. length (take m c.plan.new.pairs)) (sub-zero n) ∙ length-take-le n c.plan.new.pairs (omega (arith, c.in-ok-plan.ensures.count.0, c.in-ok-plan.ensures.lens.0)) in
+    ap (λ m. length (take m c.plan.new.pairs)) (sub-zero n) ∙ length-take-le n c.plan.new.pairs (omega (arith, c.in_ok-plan.ensures.count.0, c.in_ok-plan.ensures.lens.0)) in
     let f : Ok n ≡ merge_answer out = ap Ok (sym l) ∙ ap merge_answer e in
-    let t : texts c.enter-all.new.names ≡ ts ++ _ =
-    c.enter-all.ensures.texts
-    ∙ (ap (enter_all ls ts) (ap (λ m. take m c.plan.new.news) (sub-zero fresh) ∙ c.in-ok-plan.ensures.texts) ∙ r.book) in
-    let b : take n c.hand-out.new.buffer ≡ pairs = ap (take n) c.hand-out.ensures ∙ first_part n pairs (drop (length pairs) c.args.pairs.now) l in
+    let t : texts c.enter_all.new.names ≡ ts ++ _ =
+    c.enter_all.ensures.texts
+    ∙ (ap (enter_all ls ts) (ap (λ m. take m c.plan.new.news) (sub-zero fresh) ∙ c.in_ok-plan.ensures.texts) ∙ r.book) in
+    let b : take n c.hand_out.new.buffer ≡ pairs = ap (take n) c.hand_out.ensures ∙ first_part n pairs (drop (length pairs) c.args.pairs.now) l in
     record {
       answer = f;
       after = c.apply.ensures ∙ ap (λ (o : Result (List Renaming) Refusal). merge_after o live inc) e;
-      buffer = c.hand-out.ensures ∙ ap (λ (o : Result (List Renaming) Refusal). merge_buffer o c.args.pairs.now) e;
+      buffer = c.hand_out.ensures ∙ ap (λ (o : Result (List Renaming) Refusal). merge_buffer o c.args.pairs.now) e;
       texts = t ∙ ap (λ (o : Result (List Renaming) Refusal). merge_texts o ts same live inc) e;
-      limits = c.enter-all.ensures.limits;
+      limits = c.enter_all.ensures.limits;
       law = subst (λ (ps : List Renaming). Merges same live inc (maps_of c.apply.new.self) ps) (sym b) (subst (λ (m : Maps). Merges same live inc m pairs) (sym c.apply.ensures) r.merges);
-      new-names = subst (λ (ps : List Renaming). ReadsBack (texts c.enter-all.new.names) ps) (sym b) (subst (λ (us : List (List ℕ)). ReadsBack us pairs) (sym t) r.reads);
-      finds_names = few_rows c.args.self.now c.args.incoming.now ls ts same c.args.rename-duplicates (length c.args.pairs.now) (Ok n) f;
+      new_names = subst (λ (ps : List Renaming). ReadsBack (texts c.enter_all.new.names) ps) (sym b) (subst (λ (us : List (List ℕ)). ReadsBack us pairs) (sym t) r.reads);
+      finds_names = few_rows c.args.self.now c.args.incoming.now ls ts same c.args.rename_duplicates (length c.args.pairs.now) (Ok n) f;
     }

@@ -11,7 +11,7 @@ use Rattle.policy_set.proofs.set.PolicySet.policies.Goals as goal
 pub returns : goal.returns
 returns c = record {
   answer =
-      c.ids-of.ensures ∙ ap (changed both_ids) c.nth-passing.ensures
+      c.ids_of.ensures ∙ ap (changed both_ids) c.nth_passing.ensures
       ∙ ap (λ rows. changed both_ids (slice_get (filter any_row rows) c.args.place)) c.rows.ensures
       ∙ sym (at_all both_ids (policies_in c.args.self.now.policies) c.args.place);
   lists = lists policy_id any_row (policies_in c.args.self.now.policies) _ c.args.self.now.policies.once

@@ -15,31 +15,31 @@ use Rattle.policy_set.proofs.Updates.{maps_equal, kept_as}
 use Rattle.policy_set.proofs.Removed.{static_removed-kept, static_removes, policy_last-kept, policy_last_refused, remove_static_accepts, remove_static_puts_back}
 use Rattle.policy_set.proofs.set.PolicySet.remove_static.Goals as goal
 
-pub invariant-of-self : goal.invariant-of-self
-invariant-of-self c =
+pub invariant_of-self : goal.invariant_of-self
+invariant_of-self c =
     let set = c.args.self.now in
     let id = c.args.id in
-    let k = kept_as (policy_last id (maps_of set)) (templates_in set.templates) (policies_in c.move-last.new.self) (members_in set.members)
-    refl c.move-last.ensures refl (policy_last-kept (maps_of set) id (sound set) (kept_in set)) in
-    (k.one, (k.values, (k.scopes, (k.members, tt))))
+    let k = kept_as (policy_last id (maps_of set)) (templates_in set.templates) (policies_in c.move_last.new.self) (members_in set.members)
+    refl c.move_last.ensures refl (policy_last-kept (maps_of set) id (sound set) (kept_in set)) in
+    record { names_one = k.one; valued = k.values; scoped = k.scopes; same_members = k.members }
 
-pub invariant-of-self-2 : goal.invariant-of-self-2
-invariant-of-self-2 c =
+pub invariant_of-self-2 : goal.invariant_of-self-2
+invariant_of-self-2 c =
     let set = c.args.self.now in
     let id = c.args.id in
-    let t = is_some (template_at (maps_of set) id) (sym c.has-template.ensures ∙ c.if-not-has-template.false) in
+    let t = is_some (template_at (maps_of set) id) (sym c.has_template.ensures ∙ c.if-not-has_template.false) in
     let r = row_of (maps_of set) id (parts c.in-Some.policy) c.in-Some.ensures in
     let k = kept_as (without_template id (without_policy id (maps_of set))) (templates_in c.remove.new.self) (policies_in c.remove-2.new.self) (members_in c.remove-3.new.self)
     c.remove.ensures c.remove-2.ensures c.remove-3.ensures (static_removed-kept (maps_of set) id t.0 r.0 (sound set) (kept_in set) t.1 r.1) in
-    (k.one, (k.values, (k.scopes, (k.members, tt))))
+    record { names_one = k.one; valued = k.values; scoped = k.scopes; same_members = k.members }
 
-pub returns-then-not-has-template : goal.returns-then-not-has-template
-returns-then-not-has-template c =
+pub returns-then-not-has_template : goal.returns-then-not-has_template
+returns-then-not-has_template c =
     let set = c.args.self.now in
     let id = c.args.id in
-    let a = remove_static_puts_back (length (texts c.args.names.now)) (maps_of set) id (parts c.in-Some.policy) c.in-ok-known.ensures c.in-Some.ensures
-    (sym c.has-template.ensures ∙ c.if-not-has-template.true) in
-    let e = maps_equal (policy_last id (maps_of set)) (templates_in set.templates) (policies_in c.move-last.new.self) (members_in set.members) refl c.move-last.ensures refl in
+    let a = remove_static_puts_back (length (texts c.args.names.now)) (maps_of set) id (parts c.in-Some.policy) c.in_ok-known.ensures c.in-Some.ensures
+    (sym c.has_template.ensures ∙ c.if-not-has_template.true) in
+    let e = maps_equal (policy_last id (maps_of set)) (templates_in set.templates) (policies_in c.move_last.new.self) (members_in set.members) refl c.move_last.ensures refl in
     record {
       answer = a.0;
       after = e ∙ sym a.1;
@@ -51,10 +51,10 @@ returns c =
     let set = c.args.self.now in
     let id = c.args.id in
     let p = parts c.in-Some.policy in
-    let t = is_some (template_at (maps_of set) id) (sym c.has-template.ensures ∙ c.if-not-has-template.false) in
+    let t = is_some (template_at (maps_of set) id) (sym c.has_template.ensures ∙ c.if-not-has_template.false) in
     let r = row_of (maps_of set) id p c.in-Some.ensures in
-    let a = remove_static_accepts (length (texts c.args.names.now)) (maps_of set) id p c.in-ok-known.ensures c.in-Some.ensures
-    (sym c.has-template.ensures ∙ c.if-not-has-template.false) in
+    let a = remove_static_accepts (length (texts c.args.names.now)) (maps_of set) id p c.in_ok-known.ensures c.in-Some.ensures
+    (sym c.has_template.ensures ∙ c.if-not-has_template.false) in
     let e = maps_equal (without_template id (without_policy id (maps_of set))) (templates_in c.remove.new.self) (policies_in c.remove-2.new.self) (members_in c.remove-3.new.self)
     c.remove.ensures c.remove-2.ensures c.remove-3.ensures in
     record {

@@ -11,7 +11,7 @@ use Rattle.policy_set.proofs.set.PolicySet.templates.Goals as goal
 pub returns : goal.returns
 returns c = record {
   answer =
-      c.id-of.ensures ∙ ap (changed template_id) c.nth-passing.ensures
+      c.id_of.ensures ∙ ap (changed template_id) c.nth_passing.ensures
       ∙ ap (λ rows. changed template_id (slice_get (filter has_slots rows) c.args.place)) c.rows.ensures;
   lists = lists template_id has_slots (templates_in c.args.self.now.templates) _ c.args.self.now.templates.once (λ place. refl);
 }

@@ -6,18 +6,18 @@ use Rattle.policy_set.specs.Validation.{try_validate_answer}
 use Rattle.policy_set.proofs.Validates.{fault_at, fault_past}
 use Rattle.policy_set.proofs.set.validate.check_all.Goals as goal
 
-pub returns-in-err-check-template : goal.returns-in-err-check-template
-returns-in-err-check-template g c =
-    let p = err_from_is_err_and c.from-residual.result c.from-residual.ensures.1 in
+pub returns-in_err-check_template : goal.returns-in_err-check_template
+returns-in_err-check_template g c =
+    let p = err_from_is_err_and c.from_residual.result c.from_residual.ensures.1 in
     p.1 ∙ ap Err p.2
     ∙ fault_at (texts c.args.names.now) (g.B.ClauseBook.listed c.args.clauses.now) c.args.rows.now c.loop-i.i c.index-rows-i.result
-    _ c.loop-i-test.true c.index-rows-i.is c.in-err-check-template.ensures
+    _ c.loop-i-test.true c.index-rows-i.is c.in_err-check_template.ensures
     ∙ c.loop-i.invariant
 
 pub loop-i-preserved : goal.loop-i-preserved
 loop-i-preserved g c =
     fault_past (texts c.args.names.now) (g.B.ClauseBook.listed c.args.clauses.now) c.args.rows.now c.loop-i.i c.index-rows-i.result
-    c.loop-i-test.true c.index-rows-i.is c.in-ok-check-template.ensures
+    c.loop-i-test.true c.index-rows-i.is c.in_ok-check_template.ensures
     ∙ c.loop-i.invariant
 
 pub returns : goal.returns

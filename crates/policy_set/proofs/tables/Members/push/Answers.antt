@@ -5,13 +5,10 @@ use Rattle.policy_set.specs.Held.{members_in}
 use Rattle.policy_set.proofs.Lookups.{once_pushed}
 use Rattle.policy_set.proofs.tables.Members.push.Goals as goal
 
-pub invariant-of-self : goal.invariant-of-self
-invariant-of-self c =
-    let table = c.args.self.now in (
-      omega (arith, c.requires.room, c.append-self.ensures.count, length-take-le table.used table.rows (omega arith)),
-      (
-        once_pushed member_id (members_in table) (take c.append-self.result c.append-self.new.rows) c.args.row
-            c.append-self.ensures.after table.once c.requires.new,
-        tt,
-      ),
-    )
+pub invariant_of-self : goal.invariant_of-self
+invariant_of-self c =
+    let table = c.args.self.now in record {
+      room = omega (arith, c.requires.room, c.append-self.ensures.count, length-take-le table.used table.rows (omega arith));
+      once = once_pushed member_id (members_in table) (take c.append-self.result c.append-self.new.rows) c.args.row
+          c.append-self.ensures.after table.once c.requires.new;
+    }

@@ -4,13 +4,10 @@ use Rattle.policy_set.specs.Held.{templates_in}
 use Rattle.policy_set.proofs.Lookups.{once_erased}
 use Rattle.policy_set.proofs.tables.Templates.remove.Goals as goal
 
-pub invariant-of-self : goal.invariant-of-self
-invariant-of-self c =
-    let table = c.args.self.now in (
-      omega (arith, c.remove-self.ensures.count),
-      (
-        once_erased template_id c.args.id (templates_in table) (take c.remove-self.result c.remove-self.new.rows)
-            c.remove-self.ensures.after table.once,
-        tt,
-      ),
-    )
+pub invariant_of-self : goal.invariant_of-self
+invariant_of-self c =
+    let table = c.args.self.now in record {
+      room = omega (arith, c.remove-self.ensures.count);
+      once = once_erased template_id c.args.id (templates_in table) (take c.remove-self.result c.remove-self.new.rows)
+          c.remove-self.ensures.after table.once;
+    }
