@@ -20,7 +20,7 @@ pub fn push_word(line: &mut String, word: &str) -> Result<(), AllocError>
 pub fn push_number(line: &mut String, number: usize) -> Result<(), AllocError>
     ensures { OnOk result (string_bytes line.new ≡ string_bytes line.old ++ (32 ∷ decimal number)) }
 {
-    let word = number.to_string(line.allocator())?;
+    let word = number.to_string(*line.allocator())?;
     push_word(line, word.as_str())
 }
 

@@ -1,5 +1,5 @@
 -- What additions change, and that they keep what a set keeps.
-use Rattle.std.proofs.Common.{◌≡◌, ℕ, Bool, true, false, cond, not, ◌&&◌, eqb, List, [], ◌∷◌, ◌++◌, length, is_some, Some, None, Option, sym, refl, ap, ◌∙◌}
+use Rattle.std.proofs.Common.{◌≡◌, ℕ, true, false, cond, not, ◌&&◌, eqb, [], ◌∷◌, ◌++◌, length, is_some, Some, None, Option, sym, refl, ap, ◌∙◌}
 use Rattle.std.proofs.lemmas.List.{append-nil}
 use Rattle.std.proofs.lemmas.Bool.{eq-eqb, and_from}
 use Rattle.policy.specs.Binding.{value_slots}
@@ -18,7 +18,7 @@ use Rattle.policy_set.specs.Answers.{with_template, with_policy}
 use Rattle.policy_set.proofs.Lookups.{no_some, lookup_pushed, lookup-kept}
 use Rattle.policy_set.proofs.Sounds.{template_of, slotless_from}
 use Rattle.policy_set.proofs.Places.{length_by_keys}
-use Rattle.policy_set.proofs.Updates.{Update, Fits, Kept, kept}
+use Rattle.policy_set.proofs.Updates.{Update, Kept, kept}
 
 -- there are as many members as policies
 pub as_many : (m : Maps) → Sound m → length m.members ≡ length m.policies

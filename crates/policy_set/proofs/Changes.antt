@@ -1,5 +1,5 @@
 -- Removing one thing and adding one, in the subject's words.
-use Rattle.std.proofs.Common.{◌≡◌, ℕ, ◌+◌, ◌≤◌, Bool, true, false, cond, ◌||◌, eqb, List, [], ◌∷◌, ◌++◌, is_some, Some, None, Ok, Err, filter, Option, Result, sym, refl, ap, ◌∙◌, subst, arith}
+use Rattle.std.proofs.Common.{◌≡◌, ℕ, ◌+◌, ◌≤◌, Bool, true, false, cond, ◌||◌, eqb, List, [], ◌∷◌, ◌++◌, is_some, Some, None, Ok, Err, filter, Option, Result, sym, refl, ap, ◌∙◌, arith}
 use Rattle.refusals.specs.declared.refusal.Refusal.{Refusal}
 use Rattle.std.proofs.lemmas.List.Elements.{filter-append}
 use Rattle.std.proofs.lemmas.Bool.{eq-eqb, ne_eqb}
@@ -7,10 +7,10 @@ use Rattle.policy.specs.Arity.{Parts}
 use Rattle.policy.specs.declared.template.Template.{Template}
 use Rattle.policy_set.specs.declared.rows.PolicyRow.{PolicyRow}
 use Rattle.policy_set.specs.declared.rows.Member.{Member}
-use Rattle.policy_set.specs.Tables.{one_if, lookup, erase, times, Once}
+use Rattle.policy_set.specs.Tables.{one_if, erase, times, Once}
 use Rattle.policy_set.specs.Rows.{member_id}
-use Rattle.policy_set.specs.Maps.{Maps, Thing, template_at, row_at, member_at, changed, present, link_of, whole, in_force, bound, named, thing}
-use Rattle.policy_set.specs.Answers.{if_accepted, is_under, reverse_set}
+use Rattle.policy_set.specs.Maps.{Maps, Thing, template_at, row_at, changed, present, link_of, whole, in_force, named, thing}
+use Rattle.policy_set.specs.Answers.{if_accepted, is_under}
 use Rattle.policy_set.specs.Laws.{Removes, Adds, Refused}
 use Rattle.policy_set.proofs.Lookups.{times_none, once_tail, once_head}
 use Rattle.policy_set.proofs.Updates.{Update, same_template, other_template, other_row, here_template, here_row, here_member}

@@ -1,6 +1,6 @@
 -- Equality of templates and of policies, field by field.
-use Rattle.std.proofs.Common.{◌≡◌, ℕ, Bool, true, false, cond, ◌&&◌, eqb, Some, None, Option, sym, refl, ap, ◌∙◌}
-use Rattle.std.proofs.lemmas.Bool.{false≢true, eqb-true, eq-eqb, and_parts, and_from}
+use Rattle.std.proofs.Common.{◌≡◌, ℕ, Bool, true, false, cond, eqb, Some, None, sym, refl, ap, ◌∙◌}
+use Rattle.std.proofs.lemmas.Bool.{eqb-true, eq-eqb, and_parts, and_from}
 use Rattle.policy.specs.declared.constraint.Effect.{Effect}
 use Rattle.policy.specs.declared.constraint.Effect.TheVariants.{Permit, Forbid}
 use Rattle.policy.specs.declared.template.Template.{Template}

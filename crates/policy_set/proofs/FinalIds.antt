@@ -8,7 +8,7 @@ use Rattle.policy_set.specs.Tables.{one_if, lookup, times, Once}
 use Rattle.policy_set.specs.Maps.{Maps, template_at, row_at, bound, Thing, named}
 use Rattle.policy_set.specs.Maps.Thing.{nothing, template, policy}
 use Rattle.policy_set.specs.Sound.{Sound}
-use Rattle.policy_set.specs.Merge.{things_equal, gathered, old_id, new_id, new_or, final, old_or, origin}
+use Rattle.policy_set.specs.Merge.{things_equal, old_id, new_id, new_or, final, old_or, origin}
 use Rattle.policy_set.specs.MergeLaw.{clash, old_ids, Chosen, FinalIds}
 use Rattle.policy_set.proofs.Lookups.{no_some, some_same, lookup_key, none_times, times_none, is_some, is_none}
 use Rattle.policy_set.proofs.PutAll.{once_finds}

@@ -1,19 +1,18 @@
 -- The four passes gather the ids that name unequal things.
-use Rattle.std.proofs.Common.{◌≡◌, ℕ, ◌+◌, ◌≤◌, Bool, true, false, cond, not, ◌&&◌, ◌||◌, eqb, List, [], ◌∷◌, ◌++◌, is_some, Some, None, Option, sym, refl, ap, ◌∙◌, subst, arith}
+use Rattle.std.proofs.Common.{◌≡◌, ℕ, ◌+◌, Bool, true, false, cond, not, ◌&&◌, ◌||◌, eqb, List, [], ◌∷◌, ◌++◌, is_some, Some, None, Option, sym, refl, ap, ◌∙◌, subst, arith}
 use Rattle.std.proofs.lemmas.Bool.{eqb-true, eq-eqb, ne_eqb}
 use Rattle.policy.specs.declared.template.Template.{Template}
 use Rattle.policy.specs.Equality.{template_equal}
-use Rattle.policy.specs.Arity.{Parts}
 use Rattle.policy_set.specs.declared.rows.PolicyRow.{PolicyRow}
 use Rattle.policy_set.specs.Tables.{one_if, lookup, times, Once}
 use Rattle.policy_set.specs.Rows.{template_id, policy_id}
-use Rattle.policy_set.specs.Maps.{Maps, template_at, row_at, changed, passes, present, whole, in_force, bound, thing, named}
+use Rattle.policy_set.specs.Maps.{Maps, template_at, row_at, changed, passes, present, whole, in_force, thing}
 use Rattle.policy_set.specs.Sound.{Sound, has_slots}
 use Rattle.policy_set.specs.Merge.{parts_equal, things_equal, unequal, unequal_template, unequal_policy, template_on_policy, link_on_template, among, noted, gather, gathered}
 use Rattle.policy_set.specs.MergeLaw.{clash}
 use Rattle.policy_set.proofs.Lookups.{lookup_key, once_tail, once_head, times_push}
 use Rattle.policy_set.proofs.Sounds.{no_true}
-use Rattle.policy_set.proofs.Equals.{SameTemplate, SamePolicy, same_template, is_template_equal, same_policy, linked_both}
+use Rattle.policy_set.proofs.Equals.{SameTemplate, same_template, is_template_equal, same_policy, linked_both}
 
 abbrev pub itself : ℕ → ℕ
 itself k = k

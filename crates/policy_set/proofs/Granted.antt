@@ -1,25 +1,20 @@
 -- What adding a policy changes, and that it keeps what a set keeps.
-use Rattle.std.proofs.Common.{◌≡◌, ℕ, Bool, true, false, cond, not, ◌&&◌, ◌||◌, eqb, List, [], ◌∷◌, ◌++◌, is_some, Some, None, Ok, filter, Option, sym, refl, ap, ◌∙◌, subst}
-use Rattle.std.proofs.lemmas.List.{append-nil}
+use Rattle.std.proofs.Common.{◌≡◌, ℕ, Bool, true, cond, ◌||◌, eqb, List, [], ◌∷◌, ◌++◌, is_some, Some, None, Ok, Option, sym, refl, ap, ◌∙◌, subst}
 use Rattle.std.proofs.lemmas.Bool.{eqb-true, eq-eqb, ne_eqb, and_parts}
-use Rattle.clauses.specs.Book.{Clause}
 use Rattle.policy.specs.Arity.{Parts}
 use Rattle.policy.specs.Binding.{value_slots, static_unbound}
 use Rattle.policy.specs.Equality.{template_equal, effect_equal, scopes_equal, option_equal}
 use Rattle.policy.specs.declared.template.Template.{Template}
 use Rattle.policy.specs.declared.values.SlotEnv.{SlotEnv}
-use Rattle.policy_set.specs.declared.rows.PolicyRow.{PolicyRow}
-use Rattle.policy_set.specs.declared.rows.Member.{Member}
-use Rattle.policy_set.specs.Tables.{lookup}
-use Rattle.policy_set.specs.Rows.{template_id, policy_id, member_id}
-use Rattle.policy_set.specs.Maps.{Maps, template_at, row_at, bound, named, in_force, thing, changed, whole}
-use Rattle.policy_set.specs.Maps.Thing.{template, policy}
-use Rattle.policy_set.specs.Sound.{has_slots, scopes_within, member, Sound}
-use Rattle.policy_set.specs.Answers.{id_of, row_for, link_fits, is_under, reverse_set, with_template, with_or_inserted, with_policy}
-use Rattle.policy_set.specs.Laws.{kept_record, Adds, Grants}
+use Rattle.policy_set.specs.Rows.{template_id}
+use Rattle.policy_set.specs.Maps.{Maps, template_at, row_at}
+use Rattle.policy_set.specs.Maps.Thing.{policy}
+use Rattle.policy_set.specs.Sound.{has_slots, scopes_within, Sound}
+use Rattle.policy_set.specs.Answers.{id_of, row_for, link_fits, with_template, with_or_inserted, with_policy}
+use Rattle.policy_set.specs.Laws.{kept_record, Grants}
 use Rattle.policy_set.proofs.Accepted.{NewLink, new_link}
 use Rattle.policy_set.proofs.Added.{Own, template_added_kept, template_adds, static_added_kept, static_adds, link_added_kept, link_adds}
-use Rattle.policy_set.proofs.Lookups.{no_some, lookup_pushed, once_push}
+use Rattle.policy_set.proofs.Lookups.{lookup_pushed, once_push}
 use Rattle.policy_set.proofs.Sounds.{no_true, has_slots-not, has_slots_from, sound_of}
 use Rattle.policy_set.proofs.Updates.{Kept}
 

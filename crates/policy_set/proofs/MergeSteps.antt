@@ -1,6 +1,5 @@
 -- What is known where a merge is accepted, and where it is refused with 4.
-use Rattle.std.proofs.Common.{◌≡◌, ℕ, suc, ◌+◌, ◌-◌, ◌^◌, ◌<◌, ◌≤◌, Bool, true, false, cond, not, ◌&&◌, ltb, List, [], ◌∷◌, ◌++◌, length, get_or, take, drop, is_some, Some, None, Ok, Err, Option, Result, sym, refl, ap, ◌∙◌, subst, arith}
-use native.Mathlib.Nat.{sub-zero}
+use Rattle.std.proofs.Common.{◌≡◌, ℕ, suc, ◌+◌, ◌≤◌, Bool, true, false, cond, not, ◌&&◌, ltb, List, [], ◌∷◌, ◌++◌, length, get_or, take, is_some, Some, None, Ok, Err, Option, Result, sym, refl, ap, ◌∙◌, arith}
 use Rattle.std.proofs.lemmas.List.{take-append-le, take_all, length-take}
 use Rattle.std.proofs.lemmas.Bool.{ltb-false, false≢true}
 use Rattle.refusals.specs.declared.refusal.Refusal.{Refusal}
@@ -16,13 +15,13 @@ use Rattle.policy_set.specs.Meaning.{maps_of}
 use Rattle.policy_set.specs.Sound.{Sound}
 use Rattle.policy_set.specs.Answers.{refuse_if}
 use Rattle.policy_set.specs.Merge.{gather, gathered, final, merged, rows_more, unequal_template, unequal_policy, template_on_policy, link_on_template}
-use Rattle.policy_set.specs.MergeLaw.{old_ids, Merges, Merging}
+use Rattle.policy_set.specs.MergeLaw.{old_ids, Merges}
 use Rattle.policy_set.specs.Choice.{candidates, choose, taken_by, enter_all, ReadsBack}
-use Rattle.policy_set.specs.MergeCall.{too_many, merge_tests, named_pairs, merge_outcome, merge_answer, merge_after, merge_buffer, merge_texts, news_for, OnBook, FindsNames}
+use Rattle.policy_set.specs.MergeCall.{too_many, merge_tests, named_pairs, merge_outcome, merge_answer, news_for, FindsNames}
 use Rattle.policy_set.proofs.Accepted.{accepted_then, not_refused}
 use Rattle.policy_set.proofs.MergedSound.{kept_of}
 use Rattle.policy_set.proofs.MergeLaws.{merges}
-use Rattle.policy_set.proofs.NameSearch.{ids_of, length_ids, names_found}
+use Rattle.policy_set.proofs.NameSearch.{length_ids, names_found}
 use Rattle.policy_set.proofs.NewNames.{chosen}
 use Rattle.policy_set.proofs.NewTexts.{reads_back, enter_new}
 use Rattle.policy_set.proofs.RowCounts.{few_members, gather-length}

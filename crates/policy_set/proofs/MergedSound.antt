@@ -1,5 +1,5 @@
 -- A merge keeps what every policy set keeps.
-use Rattle.std.proofs.Common.{◌≡◌, ℕ, Bool, true, false, not, ◌&&◌, eqb, ◌⊎◌, Some, None, Option, sym, refl, ap, ◌∙◌, subst, inl, inr}
+use Rattle.std.proofs.Common.{◌≡◌, ℕ, Bool, true, false, not, ◌&&◌, eqb, Some, None, Option, sym, refl, ap, ◌∙◌, inl, inr}
 use Rattle.std.proofs.lemmas.Bool.{eq-eqb, and_from, not_from_false}
 use Rattle.policy.specs.declared.template.Template.{Template}
 use Rattle.policy.specs.Binding.{value_slots}
@@ -12,7 +12,6 @@ use Rattle.policy_set.specs.Merge.{renamed_template, renamed_row, renamed_member
 use Rattle.policy_set.proofs.Lookups.{some_same, lookup_key, once_all}
 use Rattle.policy_set.proofs.Sounds.{template_of, has_slots_from, slotless_from}
 use Rattle.policy_set.proofs.Updates.{Kept}
-use Rattle.policy_set.proofs.Equals.{SameTemplate}
 use Rattle.policy_set.proofs.FinalIds.{Moves}
 use Rattle.policy_set.proofs.NamedAfter.{changed_some, changed_none, names, incoming_template, live_template}
 

@@ -1,5 +1,5 @@
 -- Where both sets bind only names of the book, the search for a new name always ends with one.
-use Rattle.std.proofs.Common.{◌≡◌, ℕ, zero, suc, ◌+◌, ◌-◌, ◌^◌, ◌<◌, ◌≤◌, Bool, true, false, cond, ◌||◌, eqb, ◌⊎◌, List, [], ◌∷◌, ◌++◌, length, is_some, Some, None, Option, sym, refl, ap, ◌∙◌, subst, inl, inr, arith, length-append}
+use Rattle.std.proofs.Common.{◌≡◌, ℕ, zero, suc, ◌+◌, ◌-◌, ◌^◌, ◌<◌, ◌≤◌, Bool, true, false, cond, ◌||◌, eqb, List, [], ◌∷◌, ◌++◌, length, is_some, Some, None, Option, sym, refl, ap, ◌∙◌, subst, inl, inr, arith, length-append}
 use Rattle.std.proofs.lemmas.Bool.{eqb-true, or_cases, or_right}
 use Rattle.names.specs.Names.{number_of}
 use Rattle.policy_set.specs.declared.rows.Renaming.{Renaming}
@@ -7,7 +7,7 @@ use Rattle.policy_set.specs.declared.merge.attempt.Try.{Try}
 use Rattle.policy_set.specs.Tables.{lookup, erase}
 use Rattle.policy_set.specs.Rows.{template_id, policy_id}
 use Rattle.policy_set.specs.Maps.{Maps, bound}
-use Rattle.policy_set.specs.Merge.{among, gathered}
+use Rattle.policy_set.specs.Merge.{among}
 use Rattle.policy_set.specs.Choice.{candidate, number_or, attempt, first_free, after_these, pair, choose, taken_by}
 use Rattle.policy_set.proofs.Lookups.{no_some, some_same}
 use Rattle.policy_set.proofs.Sounds.{no_true}

@@ -1,15 +1,14 @@
 -- What each id names after a merge.
-use Rattle.std.proofs.Common.{◌≡◌, ℕ, Bool, true, false, cond, ◌||◌, ◌⊎◌, List, is_some as option_is_some, Some, None, Option, sym, refl, ap, ◌∙◌, subst, inl, inr}
+use Rattle.std.proofs.Common.{◌≡◌, ℕ, Bool, true, false, cond, ◌||◌, ◌⊎◌, is_some as option_is_some, Some, None, Option, sym, refl, ap, ◌∙◌, subst, inl, inr}
 use Rattle.std.proofs.lemmas.Bool.{or_left, or_right}
 use Rattle.policy.specs.declared.template.Template.{Template}
 use Rattle.policy.specs.Equality.{template_equal}
 use Rattle.policy.specs.Arity.{Parts}
 use Rattle.policy_set.specs.declared.rows.PolicyRow.{PolicyRow}
 use Rattle.policy_set.specs.declared.rows.Member.{Member}
-use Rattle.policy_set.specs.Tables.{lookup, Once}
 use Rattle.policy_set.specs.Rows.{template_id, policy_id, member_id}
-use Rattle.policy_set.specs.Maps.{Maps, template_at, row_at, member_at, changed, present, link_of, whole, in_force, bound, Thing, thing, named}
-use Rattle.policy_set.specs.Maps.Thing.{nothing, template, policy}
+use Rattle.policy_set.specs.Maps.{Maps, template_at, row_at, member_at, changed, present, link_of, whole, bound, thing, named}
+use Rattle.policy_set.specs.Maps.Thing.{template, policy}
 use Rattle.policy_set.specs.Sound.{Sound, member}
 use Rattle.policy_set.specs.Merge.{things_equal, renamed_template, renamed_row, renamed_member, renamed_policy, renamed_thing, merged}
 use Rattle.policy_set.specs.MergeLaw.{NamesAfter, RowsAfter}

@@ -1,18 +1,17 @@
 -- The new ids that are chosen: distinct, taken by neither set, and never out of reach.
-use Rattle.std.proofs.Common.{◌≡◌, ℕ, zero, suc, ◌+◌, ◌-◌, ◌^◌, ◌<◌, ◌≤◌, Bool, true, false, cond, not, ◌||◌, eqb, ◌⊎◌, List, [], ◌∷◌, ◌++◌, length, get_or, drop, is_some, Some, None, codes, Option, sym, refl, ap, ◌∙◌, subst, inl, inr, arith}
+use Rattle.std.proofs.Common.{◌≡◌, ℕ, zero, suc, ◌+◌, ◌-◌, ◌^◌, ◌<◌, ◌≤◌, Bool, true, false, cond, not, eqb, ◌⊎◌, List, [], ◌∷◌, length, drop, is_some, Some, None, Option, sym, refl, ap, ◌∙◌, subst, inl, inr, arith}
 use Rattle.std.proofs.lemmas.Bool.{eqb-true, or_parts}
 use Rattle.std.proofs.lemmas.Fmt.{decimal_injective}
 use Rattle.names.specs.Names.{number_of}
 use Rattle.names.proofs.Names.{number_reads}
 use Rattle.policy_set.specs.declared.rows.Renaming.{Renaming}
 use Rattle.policy_set.specs.declared.merge.attempt.Try.{Try}
-use Rattle.policy_set.specs.Tables.{one_if, lookup, erase, times, Once}
+use Rattle.policy_set.specs.Tables.{one_if, lookup, times, Once}
 use Rattle.policy_set.specs.Maps.{Maps, bound}
-use Rattle.policy_set.specs.Merge.{among, gathered, new_id}
+use Rattle.policy_set.specs.Merge.{gathered, new_id}
 use Rattle.policy_set.specs.MergeLaw.{old_ids, Chosen}
 use Rattle.policy_set.specs.Choice.{candidate, number_or, attempt, first_free, after_these, pair, choose, taken_by}
 use Rattle.policy_set.proofs.Lookups.{no_some, some_same, times_none}
-use Rattle.policy_set.proofs.Sounds.{no_true}
 
 -- distinct counters have distinct texts
 pub same_candidate : (c d : ℕ) → c < 2 ^ 64 → d < 2 ^ 64 → candidate c ≡ candidate d → c ≡ d

@@ -1,9 +1,8 @@
 -- The texts that enter the book with the new ids.
-use Rattle.std.proofs.Common.{◌≡◌, ℕ, zero, suc, ◌+◌, ◌-◌, ◌^◌, ◌<◌, ◌≤◌, Bool, true, false, cond, ◌&&◌, eqb, ltb, leb, ◌⊎◌, List, [], ◌∷◌, ◌++◌, length, get_or, Some, None, Ok, Err, codes, decimal, Option, Result, sym, refl, ap, ◌∙◌, subst, inl, inr, arith, length-append}
+use Rattle.std.proofs.Common.{◌≡◌, ℕ, ◌+◌, ◌-◌, ◌^◌, ◌<◌, ◌≤◌, Bool, true, false, cond, eqb, ltb, leb, List, [], ◌∷◌, ◌++◌, length, get_or, Some, None, Ok, Err, codes, decimal, Option, sym, refl, ap, ◌∙◌, subst, arith, length-append}
 use Rattle.std.proofs.lemmas.Bool.{eqb-true, lt-ltb, le-ltb, leb-true, le-leb, and_parts, and_from, cond-true, cond-false}
 use Rattle.std.proofs.lemmas.List.{append_assoc, append-nil, length_push, get_or_at, get_or_append_left}
 use Rattle.std.proofs.lemmas.Fmt.{length-decimal-le}
-use Rattle.refusals.specs.declared.refusal.Refusal.{Refusal}
 use Rattle.refusals.specs.declared.refusal.Refusal.TheVariants.{TooLong, BookFull}
 use Rattle.names.specs.Names.{Limits, number_of, bytes_in, fits, room_for, enter_answer, found_or, name_answer, with_new, name_after}
 use Rattle.names.proofs.Names.{number_reads, number_append}
@@ -11,7 +10,7 @@ use Rattle.policy_set.specs.declared.rows.Renaming.{Renaming}
 use Rattle.policy_set.specs.declared.merge.attempt.Try.{Try}
 use Rattle.policy_set.specs.Tables.{lookup}
 use Rattle.policy_set.specs.Merge.{new_id}
-use Rattle.policy_set.specs.Choice.{candidate, candidates, attempt, first_free, after_these, pair, choose, new_text, new_texts, enter_all, ReadsBack}
+use Rattle.policy_set.specs.Choice.{candidate, candidates, first_free, after_these, pair, choose, new_text, new_texts, enter_all, ReadsBack}
 use Rattle.policy_set.proofs.Lookups.{no_some, some_same}
 use Rattle.policy_set.proofs.NewNames.{Got, got, Kind, kind, same_candidate}
 use Rattle.policy_set.proofs.NewNames.Kind.{present, new}

@@ -3,7 +3,7 @@ use Rattle.std.proofs.Common.{◌≡◌, ℕ, suc, ◌+◌, ◌-◌, ◌<◌, �
 use native.Mathlib.Nat.{sub-zero}
 use Rattle.std.proofs.lemmas.Bool.{eq-eqb, ne_eqb, eqb-true, eqb-false, cond-true, cond-false, cases_Bool, false≢true}
 use Rattle.std.proofs.lemmas.List.{at_drop_more, drop_more, length-take-le, length_push, take_at}
-use Rattle.policy_set.specs.Tables.{position_from, position, without, erase, lookup, put_last, row_last, moved_last, Once}
+use Rattle.policy_set.specs.Tables.{position_from, position, without, erase, lookup, row_last, moved_last, Once}
 use Rattle.policy_set.proofs.Lookups.{no_some, is_some, lookup_key, once_tail, once_head, once_erase, lookup-erase_same, lookup-erase_other}
 
 -- one turn of the search: the row at i has the key, or it has not

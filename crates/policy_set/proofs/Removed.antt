@@ -7,7 +7,7 @@ use Rattle.policy.specs.Known.{names_known}
 use Rattle.policy.specs.declared.template.Template.{Template}
 use Rattle.policy_set.specs.declared.rows.PolicyRow.{PolicyRow}
 use Rattle.policy_set.specs.declared.rows.Member.{Member}
-use Rattle.policy_set.specs.Tables.{Once, lookup, erase}
+use Rattle.policy_set.specs.Tables.{lookup}
 use Rattle.policy_set.specs.Rows.{template_id, policy_id, member_id}
 use Rattle.policy_set.specs.Maps.{Maps, template_at, row_at, member_at, in_force, changed, whole, thing}
 use Rattle.policy_set.specs.Maps.Thing.{policy, template}

@@ -1,5 +1,5 @@
 -- Putting members into the one list of them acts on each reverse set as putting into that set.
-use Rattle.std.proofs.Common.{◌≡◌, ℕ, Bool, true, false, cond, eqb, ◌⊎◌, List, [], ◌∷◌, ◌++◌, Some, None, filter, Option, sym, refl, ap, ◌∙◌, subst, inl, inr}
+use Rattle.std.proofs.Common.{◌≡◌, ℕ, Bool, true, false, cond, eqb, List, [], ◌∷◌, ◌++◌, Some, filter, Option, sym, refl, ap, ◌∙◌, inl, inr}
 use Rattle.std.proofs.lemmas.Bool.{eqb-true, eqb-false, eq-eqb, ne_eqb}
 use Rattle.std.proofs.lemmas.List.{append-nil}
 use Rattle.std.proofs.lemmas.List.Elements.{filter-append}
@@ -8,10 +8,10 @@ use Rattle.policy_set.specs.declared.rows.PolicyRow.{PolicyRow}
 use Rattle.policy_set.specs.declared.rows.Member.{Member}
 use Rattle.policy_set.specs.Tables.{lookup, erase, put_last, put_all, Once}
 use Rattle.policy_set.specs.Rows.{template_id, member_id}
-use Rattle.policy_set.specs.Maps.{Maps, template_at, row_at, member_at, present, whole, bound}
+use Rattle.policy_set.specs.Maps.{Maps, template_at, row_at, member_at, present, whole}
 use Rattle.policy_set.specs.Sound.{Sound, member}
 use Rattle.policy_set.specs.Answers.{is_under, reverse_set}
-use Rattle.policy_set.specs.Merge.{renamed_member, renamed_policy, merged}
+use Rattle.policy_set.specs.Merge.{renamed_member, merged}
 use Rattle.policy_set.specs.MergeLaw.{ReverseAfter}
 use Rattle.policy_set.proofs.Lookups.{no_some, some_same, lookup_key, lookup-put, once_put, once_tail, once_head}
 use Rattle.policy_set.proofs.Sounds.{no_true, template_of}

@@ -1,19 +1,18 @@
 -- How many rows there are after a merge.
-use Rattle.std.proofs.Common.{◌≡◌, ℕ, suc, ◌+◌, ◌<◌, ◌≤◌, Bool, true, false, cond, not, ◌&&◌, ◌||◌, eqb, List, [], ◌∷◌, ◌++◌, length, is_some, Some, None, Option, sym, refl, ap, ◌∙◌, subst, arith, length-append}
+use Rattle.std.proofs.Common.{◌≡◌, ℕ, suc, ◌+◌, ◌≤◌, Bool, true, false, cond, not, ◌&&◌, ◌||◌, eqb, List, [], ◌∷◌, ◌++◌, length, is_some, Some, None, Option, sym, refl, ap, ◌∙◌, arith}
 use Rattle.std.proofs.lemmas.List.{length_push}
 use Rattle.std.proofs.lemmas.Bool.{false≢true, eq-eqb, ne_eqb, or_left, or_right, cond_both}
 use Rattle.policy_set.specs.declared.rows.Renaming.{Renaming}
 use Rattle.policy_set.specs.Tables.{one_if, lookup, erase, put_last, put_all, Once}
 use Rattle.policy_set.specs.Rows.{template_id, policy_id, member_id}
-use Rattle.policy_set.specs.Maps.{Maps, bound, changed, row_at, member_at}
+use Rattle.policy_set.specs.Maps.{Maps, changed, row_at}
 use Rattle.policy_set.specs.Sound.{Sound, member}
 use Rattle.policy_set.specs.Merge.{among, noted, gather, gathered, final, origin, renamed_template, renamed_row, merged, rows_more}
 use Rattle.policy_set.specs.MergeLaw.{clash, Chosen, FinalIds, RowsCounted}
 use Rattle.policy_set.proofs.Lookups.{some_same, lookup-put, once_put, once_tail, once_head}
-use Rattle.policy_set.proofs.Sounds.{no_true}
 use Rattle.policy_set.proofs.PutAll.{head_there, rest_there}
 use Rattle.policy_set.proofs.Gathered.{gathers}
-use Rattle.policy_set.proofs.FinalIds.{Moves, moves, final_ids, unbound}
+use Rattle.policy_set.proofs.FinalIds.{moves, final_ids, unbound}
 use Rattle.policy_set.proofs.NameSearch.{length_less, among-rest, keys, length_keys, among_keys}
 
 erased_length : {X : Type 0} (key : X → ℕ) (k : ℕ) (xs : List X) → length (erase key k xs) + one_if (is_some (lookup key k xs)) ≡ length xs

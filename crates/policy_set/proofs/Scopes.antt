@@ -1,5 +1,5 @@
 -- Where a template's slots are its condition's, the slots of its scopes are among them.
-use Rattle.std.proofs.Common.{◌≡◌, ℕ, Bool, true, false, not, ◌&&◌, ◌||◌, List, sym, refl, ap, ◌∙◌}
+use Rattle.std.proofs.Common.{◌≡◌, Bool, true, false, not, ◌&&◌, ◌||◌, List, refl, ap, ◌∙◌}
 use Rattle.std.proofs.lemmas.Bool.{and_from}
 use Rattle.refusals.specs.declared.slots.SlotId.{SlotId}
 use Rattle.refusals.specs.declared.slots.SlotId.TheVariants.{Principal, Resource}
@@ -8,7 +8,7 @@ use Rattle.clauses.specs.Tree.{written}
 use Rattle.policy.specs.Condition.{condition_tree}
 use Rattle.policy.specs.Filling.{slotted}
 use Rattle.policy.specs.Mentions.{mentioned, clause_has, part_has, condition_slots}
-use Rattle.policy.specs.Slots.{has, has_bit, slot_equal}
+use Rattle.policy.specs.Slots.{has, has_bit}
 use Rattle.policy.proofs.Mentioned.{here_condition}
 use Rattle.policy.proofs.Sets.{has_where}
 use Rattle.policy.specs.declared.template.Template.{Template}

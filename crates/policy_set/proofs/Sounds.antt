@@ -1,16 +1,15 @@
 -- The invariant of a set, test by test and in words.
 use Rattle.std.proofs.Common.{◌≡◌, ℕ, Bool, true, false, cond, not, ◌&&◌, eqb, Some, None, Option, sym, refl, ap, ◌∙◌, subst}
-use Rattle.std.proofs.lemmas.Bool.{eqb-true, eqb-false, eq-eqb, ne_eqb, and_parts, and_from, not-true, not_from_false, false≢true}
+use Rattle.std.proofs.lemmas.Bool.{eqb-true, eqb-false, eq-eqb, ne_eqb, and_parts, not-true, not_from_false, false≢true}
 use Rattle.policy.specs.Binding.{value_slots, static_unbound}
 use Rattle.policy.specs.Arity.{Parts}
-use Rattle.policy.specs.Known.{names_known}
 use Rattle.policy.specs.declared.template.Template.{Template}
 use Rattle.policy_set.specs.declared.rows.PolicyRow.{PolicyRow}
 use Rattle.policy_set.specs.declared.rows.Member.{Member}
-use Rattle.policy_set.specs.Tables.{Once, lookup}
+use Rattle.policy_set.specs.Tables.{Once}
 use Rattle.policy_set.specs.Rows.{template_id, policy_id, member_id}
 use Rattle.policy_set.specs.Maps.{Maps, template_at, row_at, member_at, changed, passes, link_of, whole, in_force}
-use Rattle.policy_set.specs.Sound.{has_slots, one_thing, valued, same_member, scoped, scopes_within, NamesOne, Valued, Scoped, SameMembers, member, Sound}
+use Rattle.policy_set.specs.Sound.{has_slots, one_thing, valued, same_member, scoped, NamesOne, Valued, Scoped, SameMembers, member, Sound}
 use Rattle.policy_set.proofs.Lookups.{no_some, some_same, lookup_key}
 
 pub no_true : {R : Type 0} → false ≡ true → R

@@ -1,5 +1,5 @@
 -- A merge keeps sets and their tallies together.
-use Rattle.std.proofs.Common.{◌≡◌, ℕ, ◌+◌, ◌≤◌, Bool, true, false, cond, ◌⊎◌, List, Some, None, Option, sym, refl, ap, ◌∙◌, subst, inl, inr, arith}
+use Rattle.std.proofs.Common.{◌≡◌, ℕ, Bool, true, false, cond, List, Some, None, Option, sym, refl, ap, ◌∙◌, subst, inl, inr, arith}
 use Rattle.std.proofs.lemmas.Bool.{lt-ltb, le-ltb}
 use Rattle.clauses.specs.Book.{Clause, Decides, at, same_content, same_clause}
 use Rattle.policy.specs.declared.template.Template.{Template}
@@ -7,8 +7,7 @@ use Rattle.policy.specs.Equality.{option_equal}
 use Rattle.policy.specs.Arity.{Parts}
 use Rattle.policy_set.specs.declared.rows.PolicyRow.{PolicyRow}
 use Rattle.policy_set.specs.declared.rows.Renaming.{Renaming}
-use Rattle.policy_set.specs.Tables.{one_if}
-use Rattle.policy_set.specs.Maps.{Maps, template_at, row_at, changed, passes, whole, in_force, bound, named}
+use Rattle.policy_set.specs.Maps.{Maps, template_at, row_at, changed, whole, in_force, bound, named}
 use Rattle.policy_set.specs.Sound.{Sound}
 use Rattle.policy_set.specs.Merge.{parts_equal, things_equal, final, origin, renamed_template, renamed_row, renamed_policy, merged}
 use Rattle.policy_set.specs.MergeLaw.{Chosen}

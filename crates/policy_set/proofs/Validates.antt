@@ -1,6 +1,6 @@
 -- Validation: the test for action types, the mask, and the law.
-use Rattle.std.proofs.Common.{◌≡◌, ℕ, zero, suc, ◌+◌, ◌*◌, ◌%◌, ◌^◌, ◌<◌, ◌≤◌, Bool, true, false, cond, eqb, ltb, List, [], ◌∷◌, length, get_or, drop, Some, None, Ok, Err, Decides, Option, Result, sym, refl, ap, ◌∙◌, subst, one-mul, pow-suc, add-one, arith, pow_pos, shl_exact, ltb-false, ltb-true, le-ltb, lt-ltb, eq-eqb, eqb-true}
-use lib.Bits.{bit_and, bit_or, or_shifted_r}
+use Rattle.std.proofs.Common.{◌≡◌, ℕ, zero, suc, ◌+◌, ◌*◌, ◌%◌, ◌^◌, ◌<◌, ◌≤◌, Bool, true, false, cond, eqb, ltb, List, [], ◌∷◌, length, get_or, drop, Some, None, Ok, Err, Option, Result, sym, refl, ap, ◌∙◌, one-mul, pow-suc, add-one, arith, pow_pos, shl_exact, ltb-false, ltb-true, lt-ltb, eqb-true}
+use lib.Bits.{bit_or, or_shifted_r}
 use borrow.Author.Tests.{clash}
 use Rattle.std.proofs.lemmas.Bool.Decides.{same_from_decides}
 use Rattle.std.proofs.lemmas.List.{at_drop_more}
@@ -14,7 +14,7 @@ use Rattle.names.specs.Names.{Told}
 use Rattle.names.specs.TypeName.{IsAction, is_action}
 use Rattle.names.specs.declared.entity.EntityUID.{EntityUID}
 use Rattle.names.proofs.Actions.{action_decides}
-use Rattle.clauses.specs.Book.{Clause, Lawful, at, slots_of}
+use Rattle.clauses.specs.Book.{Clause, Lawful}
 use Rattle.policy.specs.Scopes.{actions_of}
 use Rattle.policy.specs.declared.template.Template.{Template}
 use Rattle.policy_set.specs.Validation.{action_typed, mask_from, clause_slots, first_slot, mask_fault, slot_fault, template_fault, check_answer, fault_or, try_validate_answer, AllActions, AllValid, AcceptsValid}

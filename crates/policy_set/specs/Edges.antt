@@ -1,5 +1,5 @@
 -- The edge cases: of conditions, of sealed texts, of validation, of binding and of linking.
-use Rattle.std.specs.Prelude.{◌≡◌, ℕ, Bool, true, false, List, [], ◌∷◌, length, Some, None, Ok, Err, codes, Option, Result, refl}
+use Rattle.std.specs.Prelude.{◌≡◌, ℕ, true, false, List, [], ◌∷◌, length, Some, None, Ok, Err, codes, Option, Result, refl}
 use Rattle.std.proofs.Common.{lit≤}
 use Rattle.refusals.specs.Refusals.{number, values}
 use Rattle.refusals.specs.declared.slots.SlotId.TheVariants as slot
@@ -20,7 +20,7 @@ use Rattle.policy.specs.declared.node.ConditionNode.{ConditionNode}
 use Rattle.policy.specs.declared.node.ConditionNode.TheVariants as node
 use Rattle.policy.specs.Slots.{slots_where, slot_equal}
 use Rattle.policy.specs.Condition.{condition_tree}
-use Rattle.policy.specs.Arity.{Parts, bindable}
+use Rattle.policy.specs.Arity.{bindable}
 use Rattle.policy.specs.declared.values.SlotEnv.{SlotEnv}
 use Rattle.policy_set.specs.Maps.{Maps}
 use Rattle.policy_set.specs.Answers.{empty, add_static_after, link_answer}

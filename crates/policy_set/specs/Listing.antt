@@ -1,9 +1,8 @@
 -- Listings: what stands at each place, counted from 0.
-use Rattle.std.specs.Prelude.{◌≡◌, ℕ, Bool, true, not, List, [], ◌∷◌, is_some, Some, None, Ok, Err, filter, Option, Result}
+use Rattle.std.specs.Prelude.{◌≡◌, ℕ, Bool, true, not, List, [], ◌∷◌, is_some, Some, Ok, filter, Option, Result}
 use Rattle.std.specs.List.{slice_get}
 use Rattle.refusals.specs.declared.refusal.Refusal.{Refusal}
 use Rattle.refusals.specs.declared.refusal.Refusal.TheVariants.{MissingTemplate}
-use Rattle.policy.specs.declared.template.Template.{Template}
 use Rattle.policy_set.specs.declared.rows.PolicyRow.{PolicyRow}
 use Rattle.policy_set.specs.Tables.{lookup}
 use Rattle.policy_set.specs.Rows.{template_id, policy_id, member_id}

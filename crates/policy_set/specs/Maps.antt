@@ -1,5 +1,5 @@
 -- The three maps of a policy set, and what an id names.
-use Rattle.std.specs.Prelude.{ℕ, ◌<◌, Bool, true, false, cond, not, ◌||◌, eqb, List, is_some, Some, None, Option}
+use Rattle.std.specs.Prelude.{ℕ, Bool, false, cond, ◌||◌, List, is_some, Some, None, Option}
 use Rattle.std.proofs.Common.{lit<}
 use Rattle.policy.specs.declared.constraint.Effect.TheVariants.{Permit}
 use Rattle.policy.specs.declared.constraint.PrincipalOrResourceConstraint.TheVariants as scope

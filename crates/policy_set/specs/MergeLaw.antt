@@ -9,7 +9,7 @@ use Rattle.policy_set.specs.Rows.{template_id, policy_id, member_id}
 use Rattle.policy_set.specs.Maps.{Maps, template_at, row_at, bound, named}
 use Rattle.policy_set.specs.Sound.{Sound}
 use Rattle.policy_set.specs.Answers.{reverse_set}
-use Rattle.policy_set.specs.Merge.{things_equal, among, gathered, old_id, new_id, final, renamed_template, renamed_row, renamed_member, renamed_thing, rows_more}
+use Rattle.policy_set.specs.Merge.{things_equal, among, gathered, new_id, final, renamed_template, renamed_row, renamed_member, renamed_thing, rows_more}
 
 -- Both sets bind the id, and it names unequal things in them.
 abbrev pub clash : (ℕ → ℕ → Bool) → Maps → Maps → ℕ → Bool

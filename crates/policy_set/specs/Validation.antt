@@ -1,5 +1,5 @@
 -- Validating a set: no clause has a slot, and every action entity is of an action type.
-use Rattle.std.specs.Prelude.{◌≡◌, ℕ, ◌+◌, ◌^◌, ◌<◌, Bool, true, false, cond, List, [], ◌∷◌, length, Some, None, Ok, Err, Option, Result, ◌==◌, bit_and, nat_lt, slice_index_or}
+use Rattle.std.specs.Prelude.{◌≡◌, ℕ, ◌+◌, ◌^◌, ◌<◌, Bool, false, cond, List, [], ◌∷◌, length, Some, None, Ok, Err, Option, Result, ◌==◌, bit_and, nat_lt, slice_index_or}
 use Rattle.refusals.specs.declared.slots.SlotId.{SlotId}
 use Rattle.refusals.specs.declared.slots.SlotId.TheVariants.{Principal, Resource}
 use Rattle.refusals.specs.declared.refusal.TemplateValidationError.{TemplateValidationError}

@@ -1,4 +1,4 @@
-use Rattle.std.proofs.Common.{◌≡◌, ◌<◌, List, [], ◌∷◌, ◌++◌, length, take, None, sym, ap, ◌∙◌, arith}
+use Rattle.std.proofs.Common.{◌<◌, List, [], ◌∷◌, ◌++◌, length, take, sym, ap, ◌∙◌, arith}
 use Rattle.policy_set.specs.Tables.{erase, lookup}
 use Rattle.policy_set.proofs.Places.{put-fits}
 use Rattle.policy_set.proofs.keyed.put.Goals as goal

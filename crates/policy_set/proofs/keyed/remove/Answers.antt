@@ -1,4 +1,4 @@
-use Rattle.std.proofs.Common.{sym, refl, ap, ◌∙◌, arith, rules}
+use Rattle.std.proofs.Common.{sym, refl, ◌∙◌, arith, rules}
 use Rattle.std.proofs.lemmas.List.{places, length-take-le}
 use Rattle.policy_set.proofs.Places.{found_in, found_below, missed_in}
 use Rattle.policy_set.proofs.Shifts.{removed_front}

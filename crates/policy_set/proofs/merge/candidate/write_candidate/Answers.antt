@@ -1,4 +1,4 @@
-use Rattle.std.proofs.Common.{◌-◌, ◌<◌, ◌≤◌, arith}
+use Rattle.std.proofs.Common.{arith}
 use Rattle.policy_set.proofs.Candidates.{prefixed}
 use Rattle.policy_set.proofs.merge.candidate.write_candidate.Goals as goal
 

@@ -1,4 +1,4 @@
-use Rattle.std.proofs.Common.{◌≡◌, ℕ, List, ◌++◌, decimal, sym, ap, ◌∙◌, arith}
+use Rattle.std.proofs.Common.{ℕ, List, ◌++◌, decimal, sym, ap, ◌∙◌, arith}
 use Rattle.std.proofs.lemmas.List.{append-nil, drop_all}
 use Rattle.policy_set.proofs.Candidates.{two_places, one_digit_less, digit_written, first_digit}
 use Rattle.policy_set.proofs.merge.candidate.write_decimal.Goals as goal

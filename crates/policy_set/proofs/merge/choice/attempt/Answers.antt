@@ -1,4 +1,4 @@
-use Rattle.std.proofs.Common.{sym, ◌∙◌, arith}
+use Rattle.std.proofs.Common.{sym, arith}
 use Rattle.names.specs.Book.{texts}
 use Rattle.policy_set.proofs.Choices.{few_names}
 use Rattle.policy_set.proofs.NewNames.{number_below}

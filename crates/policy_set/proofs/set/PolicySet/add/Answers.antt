@@ -1,4 +1,4 @@
-use Rattle.std.proofs.Common.{◌≡◌, ℕ, Bool, List, [], ◌∷◌, ◌++◌, length, sym, refl, ap, ◌∙◌, subst, arith}
+use Rattle.std.proofs.Common.{ℕ, Bool, List, [], ◌∷◌, ◌++◌, length, sym, ap, ◌∙◌, subst, arith}
 use Rattle.clauses.specs.Book.{Clause, Lawful, same_clause}
 use Rattle.names.specs.Book.{texts}
 use Rattle.policy.specs.Arity.{parts}
@@ -8,7 +8,7 @@ use Rattle.policy_set.specs.declared.set.PolicySet.{PolicySet}
 use Rattle.policy_set.specs.Held.{templates_in, policies_in, members_in}
 use Rattle.policy_set.specs.Maps.{Maps, row_at}
 use Rattle.policy_set.specs.Sound.{member}
-use Rattle.policy_set.specs.Answers.{add_answer, id_of, row_for, with_or_inserted, with_policy}
+use Rattle.policy_set.specs.Answers.{add_answer, row_for, with_or_inserted, with_policy}
 use Rattle.policy_set.specs.Laws.{Grants}
 use Rattle.policy_set.specs.Meaning.{maps_of}
 use Rattle.policy_set.proofs.Accepted.{NewPolicy, new_policy}

@@ -1,9 +1,9 @@
-use Rattle.std.proofs.Common.{◌≡◌, ℕ, ◌+◌, ◌≤◌, List, [], length, take, refl, ap, ◌∙◌, arith}
+use Rattle.std.proofs.Common.{◌≡◌, ℕ, ◌≤◌, List, [], length, take, refl, ap, arith}
 use Rattle.std.proofs.lemmas.List.{length-take}
 use Rattle.clauses.specs.Book.{same_clause}
 use Rattle.policy_set.specs.Rows.{template_id, policy_id}
 use Rattle.policy_set.specs.Meaning.{maps_of}
-use Rattle.policy_set.specs.Merge.{gather, unequal_template, unequal_policy, template_on_policy, link_on_template}
+use Rattle.policy_set.specs.Merge.{unequal_template, unequal_policy, template_on_policy, link_on_template}
 use Rattle.policy_set.proofs.MergeSteps.{pass_length}
 use Rattle.policy_set.proofs.set.PolicySet.gather_all.Goals as goal
 

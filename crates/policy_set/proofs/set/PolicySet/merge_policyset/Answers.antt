@@ -1,4 +1,4 @@
-use Rattle.std.proofs.Common.{◌≡◌, ℕ, ◌-◌, ◌≤◌, Bool, List, ◌++◌, length, take, drop, Ok, Err, Result, sym, refl, ap, ◌∙◌, subst, arith}
+use Rattle.std.proofs.Common.{◌≡◌, ℕ, ◌-◌, Bool, List, ◌++◌, length, take, drop, Ok, Err, Result, sym, refl, ap, ◌∙◌, subst, arith}
 use native.Mathlib.Nat.{sub-zero}
 use Rattle.std.proofs.lemmas.List.{length-take-le}
 use Rattle.std.proofs.lemmas.Result.{err_from_is_err_and}
@@ -10,10 +10,9 @@ use Rattle.policy_set.specs.declared.set.PolicySet.{PolicySet}
 use Rattle.policy_set.specs.Maps.{Maps}
 use Rattle.policy_set.specs.Meaning.{maps_of}
 use Rattle.policy_set.specs.Choice.{enter_all, ReadsBack}
-use Rattle.policy_set.specs.Merge.{final, merged}
-use Rattle.policy_set.specs.MergeCall.{merge_outcome, merge_answer, merge_after, merge_buffer, merge_texts, news_for, FindsNames}
+use Rattle.policy_set.specs.MergeCall.{merge_outcome, merge_answer, merge_after, merge_buffer, merge_texts}
 use Rattle.policy_set.specs.MergeLaw.{Merges}
-use Rattle.policy_set.proofs.MergeSteps.{Ready, ready, finds_names, few_rows, first_part}
+use Rattle.policy_set.proofs.MergeSteps.{Ready, ready, few_rows, first_part}
 use Rattle.policy_set.proofs.Sets.{sound}
 use Rattle.policy_set.proofs.set.PolicySet.merge_policyset.Goals as goal
 

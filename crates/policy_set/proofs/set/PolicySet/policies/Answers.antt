@@ -1,10 +1,9 @@
-use Rattle.std.proofs.Common.{◌≡◌, filter, sym, ap, ◌∙◌}
+use Rattle.std.proofs.Common.{filter, sym, ap, ◌∙◌}
 use Rattle.std.specs.List.{slice_get}
 use Rattle.policy_set.specs.Rows.{policy_id}
 use Rattle.policy_set.specs.Maps.{changed}
 use Rattle.policy_set.specs.Held.{policies_in}
-use Rattle.policy_set.specs.Sound.{has_slots}
-use Rattle.policy_set.specs.Listing.{any_row, both_ids, first_id, is_static}
+use Rattle.policy_set.specs.Listing.{any_row, both_ids}
 use Rattle.policy_set.proofs.Listings.{lists, at_all, first_of_both}
 use Rattle.policy_set.proofs.set.PolicySet.policies.Goals as goal
 

@@ -1,4 +1,4 @@
-use Rattle.std.proofs.Common.{take, sym, ap, ◌∙◌, subst, arith}
+use Rattle.std.proofs.Common.{sym, subst, arith}
 use Rattle.policy_set.specs.Tables.{Once}
 use Rattle.policy_set.specs.Rows.{template_id}
 use Rattle.policy_set.specs.Held.{templates_in}
