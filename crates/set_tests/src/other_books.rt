@@ -6,7 +6,6 @@ use policy::fixed::StaticPolicy;
 use policy::scope::ActionScope;
 use policy::template::Template;
 use policy::values::SlotEnv;
-use policy_set::rows::Renaming;
 use policy_set::set::PolicySet;
 use refusals::NameNumber;
 use refusals::refusal::Refusal;
@@ -178,24 +177,5 @@ fn slots_of_another_book(rt: HostRuntime) -> Result<(), Fail> {
     assert_eq!(rt; told(set.add_static(s, &away.names, &away.clauses)), (9, 1));
     assert_eq!(rt; told(set.add(link, &away.names, &away.clauses)), (9, 0));
     assert!(rt; set.is_empty());
-    Ok(())
-}
-
-#[test]
-fn merging_sets_of_another_book(rt: HostRuntime) -> Result<(), Fail> {
-    let home = filled(rt.alloc(), &[b"t", b"u"], &[])?;
-    let mut away = filled(rt.alloc(), &[b"t"], &[])?;
-    let mut live = PolicySet::new();
-    let mut incoming = PolicySet::new();
-    live.add_template(template(&home, 0, SLOT, None)?, &home.names, &home.clauses)?;
-    live.add_template(template(&home, 1, SLOT, None)?, &home.names, &home.clauses)?;
-    let other = PrincipalOrResourceConstraint::In(EntityReference::Slot);
-    incoming.add_template(template(&home, 0, other, None)?, &home.names, &home.clauses)?;
-    let mut pairs = [Renaming { old: 0, new: 0 }; 4];
-    // the number that every absent text would get is bound in the live set
-    assert_eq!(rt;
-        told(live.merge_policyset(&incoming, &mut away.names, &away.clauses, true, &mut pairs)),
-        (4, 0)
-    );
     Ok(())
 }

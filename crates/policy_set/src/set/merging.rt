@@ -154,7 +154,7 @@ impl PolicySet {
     }
 
     // Merges the incoming set into this one. The pairs go into the first places of the buffer; their count is the answer.
-    pub fn merge_policyset<B: ClauseBook>(
+    pub(crate) fn merge_policyset<B: ClauseBook>(
         &mut self,
         incoming: &PolicySet,
         names: &mut NameBook,
