@@ -1,6 +1,6 @@
 pub mod book;
 mod check;
 pub mod clause;
-mod names;
+mod name_checks;
 pub mod node;
 pub mod shape;

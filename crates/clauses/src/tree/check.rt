@@ -2,7 +2,7 @@ ghost use Rattle.std.specs.Prelude.{◌≡◌};
 ghost use Rattle.names.specs.Book.{texts};
 ghost use Rattle.clauses.specs.TreeEntering.{tree_check};
 
-use crate::tree::names::{check_all_names, check_all_types};
+use crate::tree::name_checks::{check_all_names, check_all_types};
 use crate::tree::node::Node;
 use crate::tree::shape::check_tree;
 use names::kept::NameBook;

@@ -9,7 +9,7 @@ use Rattle.clauses.specs.NameChecks.{name_check}
 use Rattle.clauses.specs.Nodes.{node_names}
 use Rattle.clauses.specs.TreeEntering.{names_in}
 use Rattle.clauses.proofs.Checks.{stops, goes_on}
-use Rattle.clauses.proofs.tree.names.check_all_names.Goals as goal
+use Rattle.clauses.proofs.tree.name_checks.check_all_names.Goals as goal
 
 pub returns-in_err-check_names : goal.returns-in_err-check_names
 returns-in_err-check_names c =

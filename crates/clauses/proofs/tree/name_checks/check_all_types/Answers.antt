@@ -9,7 +9,7 @@ use Rattle.clauses.specs.NameChecks.{type_check}
 use Rattle.clauses.specs.Nodes.{node_types}
 use Rattle.clauses.specs.TreeEntering.{types_in}
 use Rattle.clauses.proofs.Checks.{stops, goes_on}
-use Rattle.clauses.proofs.tree.names.check_all_types.Goals as goal
+use Rattle.clauses.proofs.tree.name_checks.check_all_types.Goals as goal
 
 pub returns-in_err-check_types : goal.returns-in_err-check_types
 returns-in_err-check_types c =
