@@ -11,9 +11,9 @@ use Rattle.clauses.specs.declared.tree.node.Node.TheVariants as node
 use Rattle.clauses.specs.declared.tree.node.Var.{Var}
 use Rattle.clauses.specs.declared.tree.node.Var.TheVariants as var
 use Rattle.clauses.specs.Book.{Decides}
-use Rattle.clauses.specs.Nodes.{same_node}
+use Rattle.clauses.specs.Nodes.{entity_equal, same_node}
 
-same_entity : (x y : EntityUID) → same_node (node.Entity x) (node.Entity y) ≡ true → x ≡ y
+same_entity : (x y : EntityUID) → entity_equal x y ≡ true → x ≡ y
 same_entity x y h =
     let w = and_parts _ _ h in
     let t = eqb-true x.ty y.ty w.0 in

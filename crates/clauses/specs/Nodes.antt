@@ -4,6 +4,8 @@ use Rattle.std.specs.Cmp.Lexicographic.{pointwise}
 use Rattle.std.specs.List.{slice_get}
 use Rattle.refusals.specs.declared.slots.SlotId.{SlotId}
 use Rattle.refusals.specs.declared.slots.SlotId.TheVariants.{Principal, Resource}
+use Rattle.names.specs.contracts.entity.EntityUIDPartialEq.TheImpl as entity
+use Rattle.names.specs.declared.entity.EntityUID.{EntityUID}
 use Rattle.clauses.specs.contracts.tree.node.NodePartialEq.TheImpl as derived
 use Rattle.clauses.specs.declared.tree.node.Node.{Node}
 use Rattle.clauses.specs.declared.tree.node.Node.TheVariants as node
@@ -62,9 +64,17 @@ node_constant node.Eq = None
 node_constant node.In = None
 node_constant (node.Is t) = None
 
--- Whether two nodes are equal: what `==` answers.
+-- What `==` answers on entities.
+abbrev pub entity_equal : EntityUID → EntityUID → Bool
+entity_equal = (entity.ghosts).eq
+
+-- What `==` answers on nodes.
+abbrev pub node_equal : Node → Node → Bool
+node_equal = (derived.ghosts).eq
+
+-- Whether two nodes are equal.
 abbrev pub same_node : Node → Node → Bool
-same_node = (derived.ghosts).eq
+same_node = node_equal
 
 -- Whether two lists of nodes are equal.
 abbrev pub same_nodes : List Node → List Node → Bool

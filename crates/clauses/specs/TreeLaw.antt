@@ -5,18 +5,18 @@ use Rattle.std.proofs.lemmas.Slice.Eq.{slice_eq-Decides}
 use Rattle.refusals.specs.declared.slots.SlotId.TheVariants.{Principal, Resource}
 use Rattle.clauses.specs.declared.tree.node.Node.{Node}
 use Rattle.clauses.specs.declared.tree.node.Node.TheVariants as node
-use Rattle.std.specs.Bool.{Decides}
-use Rattle.clauses.specs.Book.{Decides as Comparing, Lawful, listing}
+use Rattle.std.specs.Bool.{Decides as Decided}
+use Rattle.clauses.specs.Book.{Decides, Lawful, listing}
 use Rattle.clauses.specs.Nodes.{same_nodes, node_constant, mentions, tree_slots, tree_constant, tree_clause}
 use Rattle.clauses.specs.Listing.{lawful_by}
 use Rattle.clauses.specs.NodeEquals.{node_decides}
 use Rattle.clauses.specs.SlotSets.{set_small}
 
-trees : (s t : List Node) → Decides (same_nodes s t) (s ≡ t)
-trees s t = slice_eq-Decides (λ m n. (node_decides.only m n, node_decides.whenever m n)) s t (same_nodes s t) refl
+same_trees : (s t : List Node) → Decided (same_nodes s t) (s ≡ t)
+same_trees s t = slice_eq-Decides (λ m n. (node_decides.only m n, node_decides.whenever m n)) s t (same_nodes s t) refl
 
-pub trees_decide : Comparing same_nodes
-trees_decide = record { only = λ s t. (trees s t).0; whenever = λ s t. (trees s t).1 }
+pub trees_decide : Decides same_nodes
+trees_decide = record { only = λ s t. (same_trees s t).0; whenever = λ s t. (same_trees s t).1 }
 
 -- A lone literal has no slot.
 lone_slotless : (n : Node) (v : Bool) → node_constant n ≡ Some v → tree_slots (n ∷ []) ≡ 0
