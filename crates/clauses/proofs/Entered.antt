@@ -1,6 +1,6 @@
 -- The law of entering a tree, from the answer.
 use Rattle.std.proofs.Common.{◌≡◌, ℕ, ◌<◌, ◌≤◌, Bool, true, false, cond, ltb, leb, ◌⊎◌, List, [], ◌∷◌, length, get_or, Ok, Err, Result, sym, refl, ap, ◌∙◌, subst, inl, inr, arith}
-use Rattle.std.specs.List.{AllByRecursion as All}
+use Rattle.std.specs.List.{AllByRecursion}
 use Rattle.std.proofs.lemmas.Bool.{cond-true, ltb-true, lt-ltb, leb-true, le-leb}
 use Rattle.refusals.specs.Refusals.{number}
 use Rattle.refusals.specs.declared.refusal.Refusal.{Refusal}
@@ -37,11 +37,11 @@ record Tests (test : ℕ → Result (Unit {0}) Refusal) (P : ℕ → Type 0) (wr
   refuses : (n : ℕ) (e : Refusal) → test n ≡ Err e → e ≡ wrong n
 
 module _ {test : ℕ → Result (Unit {0}) Refusal} {P : ℕ → Type 0} {wrong : ℕ → Refusal} (t : Tests test P wrong) where
-  all_pass : (ns : List ℕ) → All P ns → in_turn test ns ≡ Ok tt
+  all_pass : (ns : List ℕ) → AllByRecursion P ns → in_turn test ns ≡ Ok tt
   all_pass [] h = refl
   all_pass (n ∷ ns) h = and_then_both (test n) (in_turn test ns) tt (t.passes n h.0) (all_pass ns h.1)
 
-  all_passed : (ns : List ℕ) → in_turn test ns ≡ Ok tt → All P ns
+  all_passed : (ns : List ℕ) → in_turn test ns ≡ Ok tt → AllByRecursion P ns
   all_passed [] h = tt
   all_passed (n ∷ ns) h = let w = and_then_ok (test n) (in_turn test ns) tt h in (t.passed n w.0, all_passed ns w.1)
 
@@ -176,7 +176,7 @@ module _ (texts : List (List ℕ)) (trees : List (List Node)) (nodes : List Node
   shape_one : shape_pass ≡ Ok tt → One takes nodes
   shape_one h = (judged takes nodes (Ok tt) (sym (misshapen_ok (shape takes 0 0 nodes) h))).verdict
 
-  accepts_tree : length nodes ≤ 64 → All (Known texts) (names_in nodes) → All (Typed texts) (types_in nodes) → One takes nodes → length trees < 256
+  accepts_tree : length nodes ≤ 64 → AllByRecursion (Known texts) (names_in nodes) → AllByRecursion (Typed texts) (types_in nodes) → One takes nodes → length trees < 256
       → tree_answer texts trees nodes ≡ Ok (length trees)
   accepts_tree s n t o r =
       and_then_both (tree_check texts nodes) (next_number trees) (length trees)
@@ -187,7 +187,7 @@ module _ (texts : List (List ℕ)) (trees : List (List Node)) (nodes : List Node
       (cond-true (ltb (length trees) 256) (Ok (length trees)) (Err BookFull) (lt-ltb (length trees) 256 r))
 
   accepted_tree : (n : ℕ) → tree_answer texts trees nodes ≡ Ok n
-      → (n ≡ length trees) × (length nodes ≤ 64) × All (Known texts) (names_in nodes) × All (Typed texts) (types_in nodes) × One takes nodes × (length trees < 256)
+      → (n ≡ length trees) × (length nodes ≤ 64) × AllByRecursion (Known texts) (names_in nodes) × AllByRecursion (Typed texts) (types_in nodes) × One takes nodes × (length trees < 256)
   accepted_tree n h =
       let w = and_then_ok (tree_check texts nodes) (next_number trees) n h in
       let s = and_then_ok (length_check 64 nodes) (and_then names_pass (and_then types_pass shape_pass)) tt w.0 in

@@ -1,6 +1,6 @@
 -- Whether names are known, and whether they name types.
 use Rattle.std.specs.Prelude.{◌≡◌, ℕ, ◌<◌, List, [], ◌∷◌, ◌++◌, length, Result, nat_lt, slice_index_or}
-use Rattle.std.specs.List.{AllByRecursion as All}
+use Rattle.std.specs.List.{AllByRecursion}
 use Rattle.refusals.specs.declared.refusal.Refusal.{Refusal}
 use Rattle.refusals.specs.declared.refusal.Refusal.TheVariants.{UnknownName, BadTypeName}
 use Rattle.names.specs.declared.type_name.Scan.TheVariants.{Start}
@@ -29,5 +29,5 @@ pub record First (P : ℕ → Type 0) (ns : List ℕ) (n : ℕ) : Type 0 where
   pub front : List ℕ
   pub rest : List ℕ
   pub split : ns ≡ front ++ (n ∷ rest)
-  pub before : All P front
+  pub before : AllByRecursion P front
   pub fails : P n → ⊥

@@ -1,6 +1,6 @@
 -- What entering a tree answers.
 use Rattle.std.specs.Prelude.{◌≡◌, ℕ, ◌<◌, ◌≤◌, ◌⊎◌, List, length, Ok, Err, Result}
-use Rattle.std.specs.List.{flat_map, AllByRecursion as All}
+use Rattle.std.specs.List.{flat_map, AllByRecursion}
 use Rattle.refusals.specs.declared.refusal.Refusal.{Refusal}
 use Rattle.refusals.specs.declared.refusal.Refusal.TheVariants.{UnknownName, BadTypeName, BadClause}
 use Rattle.clauses.specs.declared.tree.node.Node.{Node}
@@ -38,10 +38,10 @@ tree_answer texts trees nodes = and_then (tree_check texts nodes) (next_number t
 
 -- The law of entering a tree: accepted exactly when it is short enough, its names are known, its types keep the rule, it is the writing of one tree and there is room; refused for what is wrong.
 pub record TreeEntered (texts : List (List ℕ)) (trees : List (List Node)) (nodes : List Node) (answer : Result ℕ Refusal) : Type 0 where
-  pub accepts : length nodes ≤ 64 → All (Known texts) (names_in nodes) → All (Typed texts) (types_in nodes) → One takes nodes → length trees < 256
+  pub accepts : length nodes ≤ 64 → AllByRecursion (Known texts) (names_in nodes) → AllByRecursion (Typed texts) (types_in nodes) → One takes nodes → length trees < 256
       → answer ≡ Ok (length trees)
   pub accepted : (n : ℕ) → answer ≡ Ok n
-      → (n ≡ length trees) × (length nodes ≤ 64) × All (Known texts) (names_in nodes) × All (Typed texts) (types_in nodes) × One takes nodes × (length trees < 256)
+      → (n ≡ length trees) × (length nodes ≤ 64) × AllByRecursion (Known texts) (names_in nodes) × AllByRecursion (Typed texts) (types_in nodes) × One takes nodes × (length trees < 256)
   pub unknown : (n : ℕ) → answer ≡ Err (UnknownName n) → First (Known texts) (names_in nodes) n
   pub untyped : (t : ℕ) → answer ≡ Err (BadTypeName t) → First (Typed texts) (types_in nodes) t
   pub uneven : (place : ℕ) → answer ≡ Err (BadClause place) → Lacking takes nodes place ⊎ Uneven takes nodes place
