@@ -6,3 +6,4 @@ pub mod Rows
 pub mod Mentioned
 pub mod Checks
 pub mod Entered
+mod Derived

@@ -3,6 +3,7 @@ use Rattle.std.specs.Prelude.{◌≡◌, ◌==◌, true, refl}
 use Rattle.std.proofs.Common.{ap, subst}
 use Rattle.std.proofs.lemmas.Bool.{and_parts, and_from, eqb-true, eq-eqb}
 use Rattle.std.specs.Cmp.{booleans_Decides}
+use Rattle.refusals.specs.Refusals.{slot_bit}
 use Rattle.refusals.specs.declared.slots.SlotId.{SlotId}
 use Rattle.refusals.specs.declared.slots.SlotId.TheVariants as slot
 use Rattle.names.specs.declared.entity.EntityUID.{EntityUID}
@@ -11,7 +12,7 @@ use Rattle.clauses.specs.declared.tree.node.Node.TheVariants as node
 use Rattle.clauses.specs.declared.tree.node.Var.{Var}
 use Rattle.clauses.specs.declared.tree.node.Var.TheVariants as var
 use Rattle.clauses.specs.Book.{Decides}
-use Rattle.clauses.specs.Nodes.{entity_equal, same_node}
+use Rattle.clauses.specs.Nodes.{entity_equal, var_equal, same_node}
 
 same_entity : (x y : EntityUID) → entity_equal x y ≡ true → x ≡ y
 same_entity x y h =
@@ -20,13 +21,21 @@ same_entity x y h =
     let i = eqb-true x.eid y.eid w.1 in
     λ k. record { ty = t k; eid = i k }
 
-same_var : (x y : Var) → same_node (node.Var x) (node.Var y) ≡ true → x ≡ y
+entity_itself : (e : EntityUID) → entity_equal e e ≡ true
+entity_itself e = and_from (e.ty == e.ty) (e.eid == e.eid) (eq-eqb e.ty e.ty refl) (eq-eqb e.eid e.eid refl)
+
+same_var : (x y : Var) → var_equal x y ≡ true → x ≡ y
 same_var var.Principal var.Principal h = refl
 same_var var.Action var.Action h = refl
 same_var var.Resource var.Resource h = refl
 same_var x y h = cc
 
-same_slot : (x y : SlotId) → same_node (node.Slot x) (node.Slot y) ≡ true → x ≡ y
+var_itself : (x : Var) → var_equal x x ≡ true
+var_itself var.Principal = refl
+var_itself var.Action = refl
+var_itself var.Resource = refl
+
+same_slot : (x y : SlotId) → (slot_bit x == slot_bit y) ≡ true → x ≡ y
 same_slot slot.Principal slot.Principal h = refl
 same_slot slot.Resource slot.Resource h = refl
 same_slot x y h = cc
@@ -44,20 +53,11 @@ node_only node.In node.In h = refl
 node_only (node.Is a) (node.Is b) h = ap node.Is (eqb-true a b h)
 node_only x y h = cc
 
-same_var_itself : (x : Var) → same_node (node.Var x) (node.Var x) ≡ true
-same_var_itself var.Principal = refl
-same_var_itself var.Action = refl
-same_var_itself var.Resource = refl
-
-same_slot_itself : (x : SlotId) → same_node (node.Slot x) (node.Slot x) ≡ true
-same_slot_itself slot.Principal = refl
-same_slot_itself slot.Resource = refl
-
 node_itself : (x : Node) → same_node x x ≡ true
 node_itself (node.Lit b) = (booleans_Decides b b).1 refl
-node_itself (node.Var v) = same_var_itself v
-node_itself (node.Slot s) = same_slot_itself s
-node_itself (node.Entity e) = and_from (e.ty == e.ty) (e.eid == e.eid) (eq-eqb e.ty e.ty refl) (eq-eqb e.eid e.eid refl)
+node_itself (node.Var v) = var_itself v
+node_itself (node.Slot s) = eq-eqb (slot_bit s) (slot_bit s) refl
+node_itself (node.Entity e) = entity_itself e
 node_itself node.Not = refl
 node_itself node.And = refl
 node_itself node.Or = refl

@@ -1,12 +1,14 @@
 -- The nodes of a clause's tree.
-use Rattle.std.specs.Prelude.{◌≡◌, ℕ, Bool, false, ◌||◌, List, [], ◌∷◌, Some, None, Option}
+use Rattle.std.specs.Prelude.{◌≡◌, ℕ, ◌==◌, Bool, true, false, ◌&&◌, ◌||◌, List, [], ◌∷◌, Some, None, Option}
+use Rattle.std.specs.Bool.{beq}
 use Rattle.std.specs.Cmp.Lexicographic.{pointwise}
 use Rattle.std.specs.List.{slice_get}
+use Rattle.refusals.specs.Refusals.{slot_bit}
 use Rattle.refusals.specs.declared.slots.SlotId.{SlotId}
 use Rattle.refusals.specs.declared.slots.SlotId.TheVariants.{Principal, Resource}
-use Rattle.names.specs.contracts.entity.EntityUIDPartialEq.TheImpl as entity
 use Rattle.names.specs.declared.entity.EntityUID.{EntityUID}
-use Rattle.clauses.specs.contracts.tree.node.NodePartialEq.TheImpl as derived
+use Rattle.clauses.specs.declared.tree.node.Var.{Var}
+use Rattle.clauses.specs.declared.tree.node.Var.TheVariants as var
 use Rattle.clauses.specs.declared.tree.node.Node.{Node}
 use Rattle.clauses.specs.declared.tree.node.Node.TheVariants as node
 use Rattle.clauses.specs.Book.{Clause}
@@ -66,11 +68,28 @@ node_constant (node.Is t) = None
 
 -- What `==` answers on entities.
 abbrev pub entity_equal : EntityUID → EntityUID → Bool
-entity_equal = (entity.ghosts).eq
+entity_equal a b = a.ty == b.ty && a.eid == b.eid
 
--- What `==` answers on nodes.
+-- What `==` answers on variables.
+abbrev pub var_equal : Var → Var → Bool
+var_equal var.Principal var.Principal = true
+var_equal var.Action var.Action = true
+var_equal var.Resource var.Resource = true
+var_equal a b = false
+
+-- What `==` answers on nodes, variant by variant.
 abbrev pub node_equal : Node → Node → Bool
-node_equal = (derived.ghosts).eq
+node_equal (node.Lit a) (node.Lit b) = beq a b
+node_equal (node.Var a) (node.Var b) = var_equal a b
+node_equal (node.Slot a) (node.Slot b) = slot_bit a == slot_bit b
+node_equal (node.Entity a) (node.Entity b) = entity_equal a b
+node_equal node.Not node.Not = true
+node_equal node.And node.And = true
+node_equal node.Or node.Or = true
+node_equal node.Eq node.Eq = true
+node_equal node.In node.In = true
+node_equal (node.Is a) (node.Is b) = a == b
+node_equal a b = false
 
 -- Whether two nodes are equal.
 abbrev pub same_node : Node → Node → Bool
