@@ -1,18 +1,17 @@
 -- Tests over lists of names.
-use Rattle.std.proofs.Common.{◌≡◌, ℕ, ◌+◌, ◌<◌, ◌≤◌, Bool, false, List, [], ◌∷◌, ◌++◌, length, get_or, drop, Ok, Err, Result, sym, refl, ap, ◌∙◌, inl, inr}
+use Rattle.std.proofs.Common.{◌≡◌, ℕ, ◌+◌, ◌<◌, Bool, false, List, [], ◌∷◌, ◌++◌, length, get_or, drop, Ok, Err, Result, sym, refl, ap, ◌∙◌, inl, inr}
 use Rattle.std.specs.List.{flat_map}
 use Rattle.std.specs.Result.{result_unwrap_or}
 use Rattle.std.proofs.lemmas.List.{get_or_past, at_drop_more}
-use Rattle.std.proofs.lemmas.Bool.{cases_lt, le-leb}
+use Rattle.std.proofs.lemmas.Bool.{cases_lt}
 use Rattle.std.proofs.lemmas.Bool.Decides.{same_from_decides}
 use Rattle.refusals.specs.declared.refusal.Refusal.{Refusal}
-use Rattle.refusals.specs.declared.refusal.Refusal.TheVariants.{TooLong}
 use Rattle.names.specs.declared.type_name.Scan.TheVariants.{Start}
 use Rattle.names.specs.Scan.{scanned, accepts}
 use Rattle.names.specs.TypeName.{TypeName}
 use Rattle.names.specs.Names.{Told}
 use Rattle.names.proofs.TypeNames.{scan_decides}
-use Rattle.clauses.specs.Checks.{passed_if, and_then, in_turn, length_check}
+use Rattle.clauses.specs.Checks.{and_then, in_turn}
 
 -- The answer on a type's name; a number without a text has no type name.
 pub type_told : (texts : List (List ℕ)) (n : ℕ) (answer : Result Bool Refusal) → Told texts n TypeName answer
@@ -55,9 +54,3 @@ module _ {N : Type 0} (test : ℕ → Result (Unit {0}) Refusal) (held : N → L
       ∙ sym (in_turn-append test (held (get_or ns i d)) (flat_map held (drop (i + 1) ns)))
       ∙ sym (at_drop_more (λ (l : List N). in_turn test (flat_map held l)) ns i d h)
       ∙ inv
-
--- A list that is short enough leaves the answer to the next test.
-pub passes_then : {X Y : Type 0} (most : ℕ) (items : List X) (next answer : Result Y Refusal) → length items ≤ most → answer ≡ next
-    → answer ≡ and_then (length_check most items) next
-passes_then most items next answer h e =
-    e ∙ sym (ap (λ (told : Bool). and_then (passed_if told (TooLong (length items))) next) (le-leb (length items) most h))

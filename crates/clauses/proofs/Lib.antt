@@ -1,4 +1,4 @@
-pub mod Cutting
+pub mod Holding
 pub mod Scanning
 pub mod Strings
 pub mod Spelling
@@ -6,4 +6,3 @@ pub mod Rows
 pub mod Mentioned
 pub mod Checks
 pub mod Entered
-mod Derived

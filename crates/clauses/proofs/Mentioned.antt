@@ -1,27 +1,24 @@
 -- The slots of a list of nodes, node by node, and where they stand.
-use Rattle.std.proofs.Common.{◌≡◌, ℕ, zero, suc, ◌<◌, true, List, [], ◌∷◌, Some, sym, ap, ◌∙◌, subst, inl, inr, arith}
-use lib.Bits.{bit_or, or_lt}
+use Rattle.std.proofs.Common.{◌≡◌, ℕ, zero, suc, ◌<◌, true, List, [], ◌∷◌, Some, sym, ap, ◌∙◌, inl, inr, arith}
+use lib.Bits.{bit_or}
 use Rattle.std.specs.List.{slice_get}
 use Rattle.std.proofs.lemmas.Bool.{or_cases, or_left, or_right}
 use Rattle.refusals.specs.declared.slots.SlotId.{SlotId}
 use Rattle.refusals.specs.declared.slots.SlotId.TheVariants.{Principal, Resource}
 use Rattle.clauses.specs.declared.tree.node.Node.{Node}
 use Rattle.clauses.specs.declared.tree.node.Node.TheVariants.{Slot}
-use Rattle.clauses.specs.Slots.{slot_set, Tells}
+use Rattle.clauses.specs.Slots.{Tells}
 use Rattle.clauses.specs.Nodes.{same_node, node_slots, mentions, tree_slots, Mentions}
 use Rattle.clauses.specs.NodeEquals.{node_decides}
-use Rattle.clauses.specs.SlotSets.{set_small, set_or_or, set_tells}
+use Rattle.clauses.specs.SlotSets.{set_or_or, set_tells}
 
 -- One node more of what is left.
-pub node_more : (n more : ℕ) (node : Node) (rest : List Node) → n < 4
-    → more ≡ node_slots node
-    → (bit_or n more < 4) × (bit_or (bit_or n more) (tree_slots rest) ≡ bit_or n (tree_slots (node ∷ rest)))
-node_more n more node rest h e =
-    let p = same_node (Slot Principal) node in
-    let r = same_node (Slot Resource) node in (
-      subst (λ (x : ℕ). bit_or n x < 4) (sym e) (or_lt 2 n (slot_set p r) h (set_small p r)),
-      ap (λ (x : ℕ). bit_or (bit_or n x) (tree_slots rest)) e ∙ set_or_or n h p r (mentions Principal rest) (mentions Resource rest),
-    )
+pub node_more : (n more sum : ℕ) (node : Node) (rest : List Node) → n < 4 → more ≡ node_slots node → sum ≡ bit_or n more
+    → bit_or sum (tree_slots rest) ≡ bit_or n (tree_slots (node ∷ rest))
+node_more n more sum node rest h e u =
+    ap (λ (x : ℕ). bit_or x (tree_slots rest)) u
+    ∙ ap (λ (x : ℕ). bit_or (bit_or n x) (tree_slots rest)) e
+    ∙ set_or_or n h (same_node (Slot Principal) node) (same_node (Slot Resource) node) (mentions Principal rest) (mentions Resource rest)
 
 mentioned : (slot : SlotId) (nodes : List Node) → mentions slot nodes ≡ true → Mentions slot nodes
 mentioned slot [] h = let z : ◌≡◌ {A = ℕ} 0 1 = cc in absurd (omega arith)

@@ -1,6 +1,6 @@
 pub mod Book
 pub mod Tree
-pub mod Kept
+pub mod Contents
 pub mod Slots
 pub mod Sealed
 pub mod Checks

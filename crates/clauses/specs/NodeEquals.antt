@@ -1,28 +1,20 @@
 -- `==` on nodes answers whether they are equal.
-use Rattle.std.specs.Prelude.{◌≡◌, ◌==◌, true, refl}
+use Rattle.std.specs.Prelude.{◌≡◌, ◌==◌, Bool, true, List, refl}
 use Rattle.std.proofs.Common.{ap, subst}
-use Rattle.std.proofs.lemmas.Bool.{and_parts, and_from, eqb-true, eq-eqb}
+use Rattle.std.proofs.lemmas.Bool.{eqb-true, eq-eqb}
 use Rattle.std.specs.Cmp.{booleans_Decides}
 use Rattle.refusals.specs.Refusals.{slot_bit}
 use Rattle.refusals.specs.declared.slots.SlotId.{SlotId}
 use Rattle.refusals.specs.declared.slots.SlotId.TheVariants as slot
-use Rattle.names.specs.declared.entity.EntityUID.{EntityUID}
+use Rattle.names.proofs.Entities.{entity_only, entity_itself}
 use Rattle.clauses.specs.declared.tree.node.Node.{Node}
 use Rattle.clauses.specs.declared.tree.node.Node.TheVariants as node
 use Rattle.clauses.specs.declared.tree.node.Var.{Var}
 use Rattle.clauses.specs.declared.tree.node.Var.TheVariants as var
 use Rattle.clauses.specs.Book.{Decides}
-use Rattle.clauses.specs.Nodes.{entity_equal, var_equal, same_node}
-
-same_entity : (x y : EntityUID) → entity_equal x y ≡ true → x ≡ y
-same_entity x y h =
-    let w = and_parts _ _ h in
-    let t = eqb-true x.ty y.ty w.0 in
-    let i = eqb-true x.eid y.eid w.1 in
-    λ k. record { ty = t k; eid = i k }
-
-entity_itself : (e : EntityUID) → entity_equal e e ≡ true
-entity_itself e = and_from (e.ty == e.ty) (e.eid == e.eid) (eq-eqb e.ty e.ty refl) (eq-eqb e.eid e.eid refl)
+use Rattle.std.specs.Cmp.Lexicographic.{pointwise}
+use Rattle.clauses.specs.contracts.tree.node.NodePartialEq.TheImpl as derived
+use Rattle.clauses.specs.Nodes.{var_equal, node_equal, same_node, same_nodes}
 
 same_var : (x y : Var) → var_equal x y ≡ true → x ≡ y
 same_var var.Principal var.Principal h = refl
@@ -44,7 +36,7 @@ node_only : (x y : Node) → same_node x y ≡ true → x ≡ y
 node_only (node.Lit a) (node.Lit b) h = ap node.Lit ((booleans_Decides a b).0 h)
 node_only (node.Var a) (node.Var b) h = ap node.Var (same_var a b h)
 node_only (node.Slot a) (node.Slot b) h = ap node.Slot (same_slot a b h)
-node_only (node.Entity a) (node.Entity b) h = ap node.Entity (same_entity a b h)
+node_only (node.Entity a) (node.Entity b) h = ap node.Entity (entity_only a b h)
 node_only node.Not node.Not h = refl
 node_only node.And node.And h = refl
 node_only node.Or node.Or h = refl
@@ -67,3 +59,30 @@ node_itself (node.Is t) = eq-eqb t t refl
 
 pub node_decides : Decides same_node
 node_decides = record { only = node_only; whenever = λ x y e. subst (λ (z : Node). same_node x z ≡ true) e (node_itself x) }
+
+derived_var : (x y : Var) → (derived.ghosts).eq (node.Var x) (node.Var y) ≡ node_equal (node.Var x) (node.Var y)
+derived_var var.Principal var.Principal = refl
+derived_var var.Action var.Action = refl
+derived_var var.Resource var.Resource = refl
+derived_var x y = refl
+
+derived_slot : (x y : SlotId) → (derived.ghosts).eq (node.Slot x) (node.Slot y) ≡ node_equal (node.Slot x) (node.Slot y)
+derived_slot slot.Principal slot.Principal = refl
+derived_slot slot.Resource slot.Resource = refl
+derived_slot x y = refl
+
+derived_node : (x y : Node) → (derived.ghosts).eq x y ≡ node_equal x y
+derived_node (node.Lit a) (node.Lit b) = refl
+derived_node (node.Var a) (node.Var b) = derived_var a b
+derived_node (node.Slot a) (node.Slot b) = derived_slot a b
+derived_node (node.Entity a) (node.Entity b) = refl
+derived_node node.Not node.Not = refl
+derived_node node.And node.And = refl
+derived_node node.Or node.Or = refl
+derived_node node.Eq node.Eq = refl
+derived_node node.In node.In = refl
+derived_node (node.Is a) (node.Is b) = refl
+derived_node x y = refl
+
+pub derived_nodes : (s t : List Node) → pointwise (derived.ghosts).eq s t ≡ same_nodes s t
+derived_nodes s t = ap (λ (E : Node → Node → Bool). pointwise E s t) (λ i x y. derived_node x y i)

@@ -1,12 +1,12 @@
 -- The nodes of a clause's tree.
-use Rattle.std.specs.Prelude.{◌≡◌, ℕ, ◌==◌, Bool, true, false, ◌&&◌, ◌||◌, List, [], ◌∷◌, Some, None, Option}
+use Rattle.std.specs.Prelude.{◌≡◌, ℕ, ◌==◌, Bool, true, false, ◌||◌, List, [], ◌∷◌, Some, None, Option}
 use Rattle.std.specs.Bool.{beq}
 use Rattle.std.specs.Cmp.Lexicographic.{pointwise}
 use Rattle.std.specs.List.{slice_get}
 use Rattle.refusals.specs.Refusals.{slot_bit}
 use Rattle.refusals.specs.declared.slots.SlotId.{SlotId}
 use Rattle.refusals.specs.declared.slots.SlotId.TheVariants.{Principal, Resource}
-use Rattle.names.specs.declared.entity.EntityUID.{EntityUID}
+use Rattle.names.specs.Entities.{entity_equal}
 use Rattle.clauses.specs.declared.tree.node.Var.{Var}
 use Rattle.clauses.specs.declared.tree.node.Var.TheVariants as var
 use Rattle.clauses.specs.declared.tree.node.Node.{Node}
@@ -65,10 +65,6 @@ node_constant node.Or = None
 node_constant node.Eq = None
 node_constant node.In = None
 node_constant (node.Is t) = None
-
--- What `==` answers on entities.
-abbrev pub entity_equal : EntityUID → EntityUID → Bool
-entity_equal a b = a.ty == b.ty && a.eid == b.eid
 
 -- What `==` answers on variables.
 abbrev pub var_equal : Var → Var → Bool

@@ -1,14 +1,14 @@
 -- What a sealed book means.
 use Rattle.std.specs.Prelude.{ℕ, List}
-use Rattle.clauses.specs.declared.sealed.book.SealedBook.{SealedBook}
+use Rattle.clauses.specs.declared.contents.ContentBook.{ContentBook}
 use Rattle.clauses.specs.Book.{Clause, listing}
-use Rattle.clauses.specs.Kept.{kept}
+use Rattle.clauses.specs.Contents.{held}
 use Rattle.clauses.specs.Sealed.{text_clause}
 
 -- The texts in the order of their numbers.
-abbrev pub texts : SealedBook → List (List ℕ)
-texts book = kept book.texts
+abbrev pub texts : ContentBook ℕ 512 → List (List ℕ)
+texts book = held book
 
 -- The clauses in the order of their numbers.
-abbrev pub sealed_clauses : SealedBook → List (Clause (List ℕ))
+abbrev pub sealed_clauses : ContentBook ℕ 512 → List (Clause (List ℕ))
 sealed_clauses book = listing text_clause (texts book)

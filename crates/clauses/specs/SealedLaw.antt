@@ -1,5 +1,5 @@
--- The law of a sealed book.
-use Rattle.std.specs.Prelude.{◌≡◌, ℕ, Bool, true, false, cond, List, Some, None, codes, refl}
+-- The laws of sealed texts.
+use Rattle.std.specs.Prelude.{◌≡◌, ℕ, ◌<◌, Bool, true, false, cond, List, Some, None, codes, refl}
 use Rattle.std.proofs.Common.{sym, ap, arith}
 use Rattle.std.specs.Str.{bytes_eq}
 use Rattle.std.proofs.lemmas.Slice.Eq.{bytes_eq-Decides}
@@ -20,12 +20,16 @@ either_text false true v n f g h = g refl
 either_text false false v n f g h = let z : ◌≡◌ {A = ℕ} 0 1 = cc in absurd (omega arith)
 
 -- Neither `true` nor `false` has a slot.
-constant_slotless : (t : List ℕ) (v : Bool) → text_constant t ≡ Some v → text_slots t ≡ 0
-constant_slotless t v h =
+pub texts_slotless : (t : List ℕ) (v : Bool) → text_constant t ≡ Some v → text_slots t ≡ 0
+texts_slotless t v h =
     either_text (bytes_eq (codes "true") t) (bytes_eq (codes "false") t) v (text_slots t)
     (λ e. ap text_slots (sym (texts_decide.only (codes "true") t e)))
     (λ e. ap text_slots (sym (texts_decide.only (codes "false") t e)))
     h
 
+pub texts_small : (t : List ℕ) → text_slots t < 4
+texts_small t = set_small (scanned Principal Plain t) (scanned Resource Plain t)
+
+-- A book of any sealed texts shows the law of clause books.
 pub lawful_texts : (ts : List (List ℕ)) → Lawful (listing text_clause ts)
-lawful_texts ts = lawful_by text_clause (λ t. refl) (λ t. set_small (scanned Principal Plain t) (scanned Resource Plain t)) constant_slotless ts
+lawful_texts ts = lawful_by text_clause (λ t. refl) texts_small texts_slotless ts

@@ -1,6 +1,7 @@
 -- Slot sets as two answers.
 use Rattle.std.specs.Prelude.{◌≡◌, ℕ, zero, suc, ◌<◌, Bool, true, false, ◌||◌, bit_and, bit_or, refl}
 use Rattle.std.proofs.Common.{sym, ◌∙◌, ap, arith}
+use Rattle.std.proofs.Math.Bool.{or_assoc}
 use Rattle.refusals.specs.Refusals.{slot_bit}
 use Rattle.refusals.specs.declared.slots.SlotId.{SlotId}
 use Rattle.refusals.specs.declared.slots.SlotId.TheVariants.{Principal, Resource}
@@ -27,10 +28,6 @@ set_or false true true false = refl
 set_or false true false true = refl
 set_or false true false false = refl
 set_or false false q s = refl
-
-or_assoc : (a b c : Bool) → ((a || b) || c) ≡ (a || (b || c))
-or_assoc true b c = refl
-or_assoc false b c = refl
 
 as_set : (n : ℕ) → n < 4 → (p : Bool) × ((r : Bool) × (n ≡ slot_set p r))
 as_set zero h = (false, (false, refl))

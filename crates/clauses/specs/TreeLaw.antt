@@ -1,5 +1,5 @@
--- The law of a tree book.
-use Rattle.std.specs.Prelude.{◌≡◌, ℕ, Bool, List, [], ◌∷◌, Some, refl}
+-- The laws of trees.
+use Rattle.std.specs.Prelude.{◌≡◌, ℕ, ◌<◌, Bool, List, [], ◌∷◌, Some, refl}
 use Rattle.std.proofs.Common.{arith}
 use Rattle.std.proofs.lemmas.Slice.Eq.{slice_eq-Decides}
 use Rattle.refusals.specs.declared.slots.SlotId.TheVariants.{Principal, Resource}
@@ -31,10 +31,14 @@ lone_slotless node.Eq v h = refl
 lone_slotless node.In v h = refl
 lone_slotless (node.Is t) v h = refl
 
-constant_slotless : (ns : List Node) (v : Bool) → tree_constant ns ≡ Some v → tree_slots ns ≡ 0
-constant_slotless [] v h = refl
-constant_slotless (n ∷ []) v h = lone_slotless n v h
-constant_slotless (n ∷ (m ∷ ns)) v h = let z : ◌≡◌ {A = ℕ} 0 1 = cc in absurd (omega arith)
+pub trees_slotless : (ns : List Node) (v : Bool) → tree_constant ns ≡ Some v → tree_slots ns ≡ 0
+trees_slotless [] v h = refl
+trees_slotless (n ∷ []) v h = lone_slotless n v h
+trees_slotless (n ∷ (m ∷ ns)) v h = let z : ◌≡◌ {A = ℕ} 0 1 = cc in absurd (omega arith)
 
+pub trees_small : (t : List Node) → tree_slots t < 4
+trees_small t = set_small (mentions Principal t) (mentions Resource t)
+
+-- A book of any trees shows the law of clause books.
 pub lawful_trees : (ts : List (List Node)) → Lawful (listing tree_clause ts)
-lawful_trees ts = lawful_by tree_clause (λ t. refl) (λ t. set_small (mentions Principal t) (mentions Resource t)) constant_slotless ts
+lawful_trees ts = lawful_by tree_clause (λ t. refl) trees_small trees_slotless ts

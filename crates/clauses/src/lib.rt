@@ -1,8 +1,9 @@
 #![tactic(auto)]
 
 pub mod book;
+pub mod content;
+pub mod contents;
 pub mod naming;
-mod pieces;
 pub mod sealed;
 #[cfg(test)]
 mod tests;

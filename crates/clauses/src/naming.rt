@@ -6,15 +6,22 @@ use names::kept::NameBook;
 use refusals::NameNumber;
 use refusals::refusal::Refusal;
 
-// Refusal 1 unless the name is one of the book's.
-pub fn check_name(names: &NameBook, name: NameNumber) -> Result<(), Refusal>
-    ensures { result ≡ name_check (length (texts names.now)) name }
+// Refusal 1 unless the name is below the count of a book.
+pub fn known_name(count: usize, name: NameNumber) -> Result<(), Refusal>
+    ensures { result ≡ name_check count name }
 {
-    if (name as usize) < names.count() {
+    if (name as usize) < count {
         Ok(())
     } else {
         Err(Refusal::UnknownName(name))
     }
+}
+
+// Refusal 1 unless the name is one of the book's.
+pub fn check_name(names: &NameBook, name: NameNumber) -> Result<(), Refusal>
+    ensures { result ≡ name_check (length (texts names.now)) name }
+{
+    known_name(names.count(), name)
 }
 
 // Refusal 5 unless the name has a text that is a type name.

@@ -33,26 +33,18 @@ fn sealed_texts(rt: HostRuntime) {
     }
 }
 
-// An answer by number: 0 and the clause's number, or the refusal's number and first value.
-fn told(answer: Result<u16, Refusal>) -> (u8, usize) {
-    match answer {
-        Ok(n) => (0, n as usize),
-        Err(refusal) => (refusal.number(), refusal.values().0.unwrap_or(0)),
-    }
-}
-
 #[test]
 fn sealed_book(rt: HostRuntime) -> Result<(), Fail> {
     let long = [32; 513];
-    let table: [(&[u8], u8, usize); 4] = [
-        (b"?principal == a", 0, 0),
-        (b"true", 0, 1),
-        (&long, 3, 513),
-        (b"?principal == a", 0, 2),
+    let table: [(&[u8], Result<u16, Refusal>); 4] = [
+        (b"?principal == a", Ok(0)),
+        (b"true", Ok(1)),
+        (&long, Err(Refusal::TooLong(513))),
+        (b"?principal == a", Ok(2)),
     ];
     let mut book = SealedBook::new(rt.alloc())?;
-    for (text, number, value) in table {
-        assert_eq!(rt; told(book.enter(text)), (number, value));
+    for (text, answer) in table {
+        assert_eq!(rt; book.enter(text), answer);
     }
     assert!(rt; book.count() == 3 && book.slots(2).bits == 1 && book.slots(3).bits == 0);
     assert!(rt; book.same(0, 2) && !book.same(0, 1) && !book.same(3, 3));
@@ -61,21 +53,24 @@ fn sealed_book(rt: HostRuntime) -> Result<(), Fail> {
 
 #[test]
 fn tree_book(rt: HostRuntime) -> Result<(), Fail> {
-    let mut names = NameBook::new(rt.alloc(), 4, 64).ok_or("memory")?;
+    let mut names = NameBook::new(rt.alloc(), 4, 64)?;
     let ty = names.name(b"User")?;
     let bad = names.name(b"User::")?;
     let user = Node::Entity(EntityUID { ty, eid: bad });
     let principal = Node::Var(Var::Principal);
     let slot = Node::Slot(SlotId::Resource);
     let long = [slot; 65];
-    let table: [(&[Node], u8, usize); 8] = [
-        (&[Node::Lit(true)], 0, 0),
-        (&[], 7, 0),
-        (&[principal, user, Node::Eq, Node::And], 7, 3),
-        (&[principal, user], 7, 2),
-        (&[Node::Is(bad), Node::Is(9)], 1, 9),
-        (&[Node::Is(bad)], 5, bad as usize),
-        (&long, 3, 65),
+    let table: [(&[Node], Result<u16, Refusal>); 8] = [
+        (&[Node::Lit(true)], Ok(0)),
+        (&[], Err(Refusal::BadClause(0))),
+        (
+            &[principal, user, Node::Eq, Node::And],
+            Err(Refusal::BadClause(3)),
+        ),
+        (&[principal, user], Err(Refusal::BadClause(2))),
+        (&[Node::Is(bad), Node::Is(9)], Err(Refusal::UnknownName(9))),
+        (&[Node::Is(bad)], Err(Refusal::BadTypeName(bad))),
+        (&long, Err(Refusal::TooLong(65))),
         (
             &[
                 principal,
@@ -86,13 +81,12 @@ fn tree_book(rt: HostRuntime) -> Result<(), Fail> {
                 Node::In,
                 Node::And,
             ],
-            0,
-            1,
+            Ok(1),
         ),
     ];
     let mut book = TreeBook::new(rt.alloc())?;
-    for (nodes, number, value) in table {
-        assert_eq!(rt; told(book.enter(nodes, &names)), (number, value));
+    for (nodes, answer) in table {
+        assert_eq!(rt; book.enter(nodes, &names), answer);
     }
     assert!(rt;
         book.count() == 2 && book.slots(1).bits == 2 && book.same(1, 1) && !book.same(0, 1)

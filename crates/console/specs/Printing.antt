@@ -6,6 +6,7 @@ use Rattle.refusals.specs.declared.refusal.Table.TheVariants.{Templates, Policie
 use Rattle.refusals.specs.declared.refusal.Refusal.{Refusal}
 use Rattle.refusals.specs.declared.refusal.Refusal.TheVariants.{UnknownName, UnknownClause, TooLong, BookFull, BadTypeName, TooManyActions, BadClause, UnexpectedSlot, SlotCacheMismatch, Occupied, NoSuchTemplate, ArityError, PolicyIdConflict, NotLinkError, UnlinkingError, RemovePolicyNoLinkError, RemovePolicyNoTemplateError, NotTemplateError, RemoveTemplateNoTemplateError, RemoveTemplateWithLinksError, MissingTemplate, InvalidTemplate, ShortBuffer, Slotless, Crossed, Full}
 use Rattle.script.specs.Percent.{encoded}
+use Rattle.script.specs.declared.encode.Colon.{Colon}
 use Rattle.script.specs.declared.encode.Colon.TheVariants.{Coded}
 
 -- A line with words behind it, a space before each.
@@ -13,9 +14,13 @@ abbrev pub spaced : List ℕ → List (List ℕ) → List ℕ
 spaced line [] = line
 spaced line (word ∷ words) = spaced (line ++ (32 ∷ word)) words
 
--- The text of an id, or its number where the book lacks it.
+-- The text of a name, or its number where the book lacks it.
+abbrev pub name_text : List (List ℕ) → Colon → ℕ → List ℕ
+name_text texts colon number = cond (nat_lt number (length texts)) (encoded colon (slice_index_or texts number [])) (decimal number)
+
+-- The text of an id.
 abbrev pub id_word : List (List ℕ) → ℕ → List ℕ
-id_word texts id = cond (nat_lt id (length texts)) (encoded Coded (slice_index_or texts id [])) (decimal id)
+id_word texts id = name_text texts Coded id
 
 -- The name of a table.
 abbrev pub table_word : Table → List ℕ

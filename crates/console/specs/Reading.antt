@@ -16,6 +16,11 @@ abbrev pub rest : List (List ℕ) → List (List ℕ)
 rest [] = []
 rest (word ∷ words) = words
 
+-- The next word.
+abbrev pub next_word : List (List ℕ) → Option (List ℕ)
+next_word [] = None
+next_word (word ∷ words) = Some word
+
 -- The text that the next word means.
 abbrev pub next_text : List (List ℕ) → Option (List ℕ)
 next_text [] = None

@@ -1,50 +1,45 @@
 // The action scope of a line.
+use crate::reader::Reader;
 use crate::stop::{Stop, Wrong};
-use crate::terms::entity;
 use names::entity::EntityUID;
-use names::kept::NameBook;
-use script::parts::split_once;
-use std::alloc::Global;
+use policy::action::ActionIn;
+use policy::scope::ActionScope;
 
 // An action scope as it is written: a list may have any length.
-#[derive(Drop)]
-pub enum ActionWord {
-    Any,
-    Eq(EntityUID),
-    In(Vec<EntityUID>),
+pub type ActionWord = ActionIn<Vec<EntityUID>>;
+
+// The scope, its list lent. No `From`: both types are the library's.
+pub fn lent(action: &ActionWord) -> ActionScope<'_> {
+    match action {
+        ActionIn::Any => ActionIn::Any,
+        ActionIn::Eq(e) => ActionIn::Eq(*e),
+        ActionIn::In(list) => ActionIn::In(list.as_slice()),
+    }
 }
 
-// ENTITY,ENTITY,... and nothing for the empty list
-fn entities(heap: Global, word: &[u8], book: &mut NameBook) -> Result<Vec<EntityUID>, Stop> {
-    let mut list = Vec::new(heap);
-    if word.is_empty() {
-        return Ok(list);
+impl Reader<'_> {
+    // ENTITY,ENTITY,... and nothing for the empty list
+    fn entities(&mut self, word: &[u8]) -> Result<Vec<EntityUID>, Stop> {
+        let mut list = Vec::new(self.heap);
+        if word.is_empty() {
+            return Ok(list);
+        }
+        for part in word.split(|byte| *byte == b',') {
+            list.push(self.entity(part)?)?;
+        }
+        Ok(list)
     }
-    let mut rest = word;
-    for _ in 0..word.len() {
-        let Some((first, more)) = split_once(rest, b',') else {
-            break;
-        };
-        list.push(entity(heap, first, book)?)?;
-        rest = more;
-    }
-    list.push(entity(heap, rest, book)?)?;
-    Ok(list)
-}
 
-// any, eq:ENTITY, in:[ENTITY,ENTITY,...]
-pub fn action(heap: Global, word: &[u8], book: &mut NameBook) -> Result<ActionWord, Stop> {
-    if word == b"any".as_slice() {
-        return Ok(ActionWord::Any);
-    }
-    if let Some(rest) = word.strip_prefix(b"eq:") {
-        return Ok(ActionWord::Eq(entity(heap, rest, book)?));
-    }
-    let Some(list) = word.strip_prefix(b"in:[") else {
-        return Err(Stop::Wrong(Wrong::BadScope));
-    };
-    match list.strip_suffix(b"]") {
-        Some(list) => Ok(ActionWord::In(entities(heap, list, book)?)),
-        None => Err(Stop::Wrong(Wrong::BadScope)),
+    // any, eq:ENTITY, in:[ENTITY,ENTITY,...]
+    pub fn action(&mut self, word: &[u8]) -> Result<ActionWord, Stop> {
+        if word == b"any".as_slice() {
+            return Ok(ActionIn::Any);
+        }
+        if let Some(rest) = word.strip_prefix(b"eq:") {
+            return Ok(ActionIn::Eq(self.entity(rest)?));
+        }
+        let list = word.strip_prefix(b"in:[").ok_or(Wrong::BadScope)?;
+        let list = list.strip_suffix(b"]").ok_or(Wrong::BadScope)?;
+        Ok(ActionIn::In(self.entities(list)?))
     }
 }

@@ -1,7 +1,9 @@
-ghost use Rattle.std.specs.Prelude.{◌≡◌, [], ◌∷◌, vec_items, MatchOption, MatchResult, ◌≢◌};
+ghost use Rattle.std.specs.Prelude.{◌≡◌, [], vec_items, MatchResult, ◌≢◌};
+ghost use Rattle.std.specs.Iterator.{YieldsFirstRef, item_count};
+ghost use Rattle.std.specs.Option.{option_map};
 ghost use Rattle.std.specs.Result.{result_ok};
 ghost use Rattle.script.specs.Words.{words as words_of};
-ghost use Rattle.console.specs.Reading.{left, rest, next_text, next_number, Reads};
+ghost use Rattle.console.specs.Reading.{left, rest, next_word, next_text, next_number, Reads};
 
 use crate::stop::{Stop, Wrong};
 use refusals::NameNumber;
@@ -17,6 +19,19 @@ pub struct Args<'a> {
     words: Words<'a>,
 }
 
+impl<'a> Iterator for Args<'a> {
+    type Item = &'a [u8];
+
+    ghost next_gives = { YieldsFirstRef left };
+
+    ghost remaining = { item_count left };
+
+    // The next word; none after the last.
+    fn next(&mut self) -> Option<&'a [u8]> {
+        self.words.next()
+    }
+}
+
 impl<'a> Args<'a> {
     // All words of a line.
     pub fn new(heap: Global, line: &'a [u8]) -> Args<'a>
@@ -28,11 +43,12 @@ impl<'a> Args<'a> {
         }
     }
 
-    // The next word; none after the last.
-    pub fn next(&mut self) -> Option<&'a [u8]>
-        ensures { MatchOption result ((left self.old ≡ []) × (left self.new ≡ [])) (λ word. left self.old ≡ word.now ∷ left self.new) }
+    // The next word, which has to be there.
+    pub fn word(&mut self) -> Result<&'a [u8], Wrong>
+        ensures word { option_map (λ word. word.now) (result_ok result) ≡ next_word (left self.old) }
+        ensures rest { left self.new ≡ rest (left self.old) }
     {
-        self.words.next()
+        self.next().ok_or(Wrong::MissingWord)
     }
 
     // A text of any bytes.
@@ -40,13 +56,8 @@ impl<'a> Args<'a> {
         ensures text { Reads vec_items result (next_text (left self.old)) }
         ensures rest { left self.new ≡ rest (left self.old) }
     {
-        let Some(word) = self.next() else {
-            return Err(Stop::Wrong(Wrong::MissingWord));
-        };
-        match decode(self.heap, word)? {
-            Some(text) => Ok(text),
-            None => Err(Stop::Wrong(Wrong::BadPercent)),
-        }
+        let word = self.word()?;
+        Ok(decode(self.heap, word)?.ok_or(Wrong::BadPercent)?)
     }
 
     // The number of a name.
@@ -54,13 +65,9 @@ impl<'a> Args<'a> {
         ensures number { result_ok result ≡ next_number (left self.old) }
         ensures rest { left self.new ≡ rest (left self.old) }
     {
-        let Some(word) = self.next() else {
-            return Err(Wrong::MissingWord);
-        };
-        match read_number(word, NameNumber::MAX as u32) {
-            Some(number) => Ok(number as NameNumber),
-            None => Err(Wrong::BadNumber),
-        }
+        let word = self.word()?;
+        let number = read_number(word, NameNumber::MAX as u32).ok_or(Wrong::BadNumber)?;
+        Ok(number as NameNumber)
     }
 
     // No word may be left.

@@ -1,65 +1,63 @@
 // Lines that enter clauses: sealed texts or trees, never both.
 use crate::args::Args;
+use crate::reader::Reader;
 use crate::stop::{Stop, Wrong};
-use crate::terms::{entity, name};
 use clauses::sealed::book::SealedBook;
 use clauses::tree::book::TreeBook;
 use clauses::tree::node::{Node, Var};
-use names::kept::NameBook;
 use refusals::slots::SlotId;
 use std::alloc::{AllocError, Global};
 
-// Which book a script stands on, told by its first clause.
+// The clause books of which a script uses one.
 #[derive(Clone, Copy, PartialEq, Eq)]
-pub enum Kind {
-    Open,
+enum Kind {
     Sealed,
-    Tree,
+    Trees,
 }
 
-// The clause books of a run, of which one is used.
+// Both books are there from the start, so that no line can fail for their memory; the kind says which one is used.
 #[derive(Drop)]
 pub struct Clauses {
-    pub sealed: SealedBook,
-    pub trees: TreeBook,
-    pub kind: Kind,
+    sealed: SealedBook,
+    trees: TreeBook,
+    // None before the first clause.
+    kind: Option<Kind>,
 }
 
-// A node of a tree line.
-fn node(heap: Global, word: &[u8], book: &mut NameBook) -> Result<Node, Stop> {
-    if let Some(rest) = word.strip_prefix(b"entity:") {
-        return Ok(Node::Entity(entity(heap, rest, book)?));
+impl Reader<'_> {
+    // A node of a tree line.
+    fn node(&mut self, word: &[u8]) -> Result<Node, Stop> {
+        if let Some(rest) = word.strip_prefix(b"entity:") {
+            return Ok(Node::Entity(self.entity(rest)?));
+        }
+        if let Some(rest) = word.strip_prefix(b"is:") {
+            return Ok(Node::Is(self.name(rest)?));
+        }
+        Ok(match word {
+            b"true" => Node::Lit(true),
+            b"false" => Node::Lit(false),
+            b"principal" => Node::Var(Var::Principal),
+            b"action" => Node::Var(Var::Action),
+            b"resource" => Node::Var(Var::Resource),
+            b"?principal" => Node::Slot(SlotId::Principal),
+            b"?resource" => Node::Slot(SlotId::Resource),
+            b"not" => Node::Not,
+            b"and" => Node::And,
+            b"or" => Node::Or,
+            b"eq" => Node::Eq,
+            b"in" => Node::In,
+            _ => return Err(Wrong::BadNode.into()),
+        })
     }
-    if let Some(rest) = word.strip_prefix(b"is:") {
-        return Ok(Node::Is(name(heap, rest, book)?));
-    }
-    match word {
-        b"true" => Ok(Node::Lit(true)),
-        b"false" => Ok(Node::Lit(false)),
-        b"principal" => Ok(Node::Var(Var::Principal)),
-        b"action" => Ok(Node::Var(Var::Action)),
-        b"resource" => Ok(Node::Var(Var::Resource)),
-        b"?principal" => Ok(Node::Slot(SlotId::Principal)),
-        b"?resource" => Ok(Node::Slot(SlotId::Resource)),
-        b"not" => Ok(Node::Not),
-        b"and" => Ok(Node::And),
-        b"or" => Ok(Node::Or),
-        b"eq" => Ok(Node::Eq),
-        b"in" => Ok(Node::In),
-        _ => Err(Stop::Wrong(Wrong::BadNode)),
-    }
-}
 
-// All nodes of a tree line.
-fn nodes(heap: Global, args: &mut Args, book: &mut NameBook) -> Result<Vec<Node>, Stop> {
-    let mut list = Vec::new(heap);
-    for _ in 0..u64::MAX {
-        let Some(word) = args.next() else {
-            break;
-        };
-        list.push(node(heap, word, book)?)?;
+    // All nodes of a tree line.
+    fn nodes(&mut self, args: &mut Args) -> Result<Vec<Node>, Stop> {
+        let mut list = Vec::new(self.heap);
+        for word in args {
+            list.push(self.node(word)?)?;
+        }
+        Ok(list)
     }
-    Ok(list)
 }
 
 impl Clauses {
@@ -70,16 +68,13 @@ impl Clauses {
         Ok(Clauses {
             sealed,
             trees,
-            kind: Kind::Open,
+            kind: None,
         })
     }
 
     // The first clause says which book the script stands on.
     fn settle(&mut self, kind: Kind) -> Result<(), Wrong> {
-        if self.kind == Kind::Open {
-            self.kind = kind;
-        }
-        if self.kind == kind {
+        if *self.kind.get_or_insert(kind) == kind {
             Ok(())
         } else {
             Err(Wrong::OtherBook)
@@ -96,15 +91,27 @@ impl Clauses {
     }
 
     // `tree NODE ...`
-    pub fn tree(
-        &mut self,
-        heap: Global,
-        args: &mut Args,
-        book: &mut NameBook,
-    ) -> Result<String, Stop> {
-        self.settle(Kind::Tree)?;
-        let nodes = nodes(heap, args, book)?;
-        let number = self.trees.enter(nodes.as_slice(), book)?;
-        Ok(format!(in heap; "clause {number}")?)
+    pub fn tree(&mut self, reader: &mut Reader, args: &mut Args) -> Result<String, Stop> {
+        self.settle(Kind::Trees)?;
+        let nodes = reader.nodes(args)?;
+        let number = self.trees.enter(nodes.as_slice(), reader.book)?;
+        Ok(format!(in reader.heap; "clause {number}")?)
+    }
+
+    // `condition BODY [ROOM]`, on the book that the script stands on.
+    pub fn condition(&self, reader: &mut Reader, args: &mut Args) -> Result<String, Stop> {
+        // A match here and in `binding`: the books differ in type, and no closure is generic over a type.
+        match self.kind {
+            Some(Kind::Trees) => reader.condition(args, &self.trees),
+            Some(Kind::Sealed) | None => reader.condition(args, &self.sealed),
+        }
+    }
+
+    // `binding BODY PV RV`, likewise.
+    pub fn binding(&self, reader: &mut Reader, args: &mut Args) -> Result<String, Stop> {
+        match self.kind {
+            Some(Kind::Trees) => reader.binding(args, &self.trees),
+            Some(Kind::Sealed) | None => reader.binding(args, &self.sealed),
+        }
     }
 }

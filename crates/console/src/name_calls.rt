@@ -4,12 +4,10 @@ ghost use Rattle.console.specs.Line.{name_word, argued, name_call, meant, Asks};
 
 use crate::args::Args;
 use crate::stop::Stop;
-use names::book::*;
 use names::kept::NameBook;
 use names::type_name::is_type_name;
 use refusals::NameNumber;
 use script::encode::{Colon, encode};
-use script::words::same_word;
 use std::alloc::{AllocError, Global};
 
 // The first word of a call on names.
@@ -35,16 +33,12 @@ impl NameWord {
     pub fn of(head: &[u8]) -> Option<NameWord>
         ensures { result ≡ name_word head.now }
     {
-        if same_word(head, b"name") {
-            Some(NameWord::Name)
-        } else if same_word(head, b"text") {
-            Some(NameWord::Text)
-        } else if same_word(head, b"type") {
-            Some(NameWord::Type)
-        } else if same_word(head, b"action") {
-            Some(NameWord::Action)
-        } else {
-            None
+        match head {
+            b"name" => Some(NameWord::Name),
+            b"text" => Some(NameWord::Text),
+            b"type" => Some(NameWord::Type),
+            b"action" => Some(NameWord::Action),
+            _ => None,
         }
     }
 

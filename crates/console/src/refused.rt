@@ -8,7 +8,7 @@ use refusals::refusal::{Refusal, Table};
 use refusals::slots::SlotSet;
 use std::alloc::{AllocError, Global};
 
-// The name of a table.
+// The name of a table: the words are the console's format and not the library's, so they are no `Display` of `Table`.
 fn table_word(table: Table) -> &'static str
     ensures { result.now ≡ table_name table }
 {

@@ -1,9 +1,9 @@
 use crate::args::Args;
-use crate::clause_calls::{Clauses, Kind};
+use crate::clause_calls::Clauses;
 use crate::name_calls::NameWord;
+use crate::reader::Reader;
 use crate::refused::refused;
 use crate::stop::{Stop, Wrong};
-use crate::template_calls::{binding, condition};
 use names::book::{PLACES, ROOM};
 use names::kept::NameBook;
 use std::alloc::{AllocError, Global};
@@ -17,13 +17,11 @@ pub struct Session {
 }
 
 impl Session {
-    // A run on empty books; none for want of memory.
-    pub fn new(heap: Global) -> Option<Session> {
+    // A run on empty books.
+    pub fn new(heap: Global) -> Result<Session, AllocError> {
         let book = NameBook::new(heap, PLACES, ROOM)?;
-        let Ok(clauses) = Clauses::new(heap) else {
-            return None;
-        };
-        Some(Session {
+        let clauses = Clauses::new(heap)?;
+        Ok(Session {
             heap,
             book,
             clauses,
@@ -41,37 +39,24 @@ impl Session {
         }
         if let Some(first) = NameWord::of(head) {
             let call = first.read(&mut args)?;
-            let answer = call.make(self.heap, &mut self.book)?;
-            return Ok(Some(answer));
+            return Ok(Some(call.make(self.heap, &mut self.book)?));
         }
-        match head {
-            b"clause" => Ok(Some(self.clauses.clause(self.heap, &mut args)?)),
-            b"tree" => Ok(Some(self.clauses.tree(self.heap, &mut args, &mut self.book)?)),
-            b"condition" => Ok(Some(self.condition(&mut args)?)),
-            b"binding" => Ok(Some(self.binding(&mut args)?)),
-            _ => Err(Stop::Wrong(Wrong::UnknownCall)),
-        }
+        let mut reader = Reader {
+            heap: self.heap,
+            book: &mut self.book,
+        };
+        let answer = match head {
+            b"clause" => self.clauses.clause(self.heap, &mut args)?,
+            b"tree" => self.clauses.tree(&mut reader, &mut args)?,
+            b"condition" => self.clauses.condition(&mut reader, &mut args)?,
+            b"binding" => self.clauses.binding(&mut reader, &mut args)?,
+            _ => return Err(Wrong::UnknownCall.into()),
+        };
+        Ok(Some(answer))
     }
 
-    // `condition BODY [ROOM]`, on the book that the script stands on.
-    fn condition(&mut self, args: &mut Args) -> Result<String, Stop> {
-        match self.clauses.kind {
-            Kind::Tree => condition(self.heap, args, &mut self.book, &self.clauses.trees),
-            _ => condition(self.heap, args, &mut self.book, &self.clauses.sealed),
-        }
-    }
-
-    // `binding BODY PV RV`, on the book that the script stands on.
-    fn binding(&mut self, args: &mut Args) -> Result<String, Stop> {
-        match self.clauses.kind {
-            Kind::Tree => binding(self.heap, args, &mut self.book, &self.clauses.trees),
-            _ => binding(self.heap, args, &mut self.book, &self.clauses.sealed),
-        }
-    }
-
-    // The answer to a line, which may end with a line feed.
+    // The answer to a line, without its line feed.
     pub fn answer(&mut self, line: &[u8]) -> Result<Option<String>, AllocError> {
-        let line = line.strip_suffix(b"\n").unwrap_or(line);
         match self.call(line) {
             Ok(answer) => Ok(answer),
             Err(Stop::Wrong(wrong)) => Ok(Some(format!(in self.heap; "error {wrong}")?)),

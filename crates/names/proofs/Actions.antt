@@ -1,26 +1,14 @@
 -- The test for an action type decides that the last part is `Action`.
-use Rattle.std.proofs.Common.{◌≡◌, ℕ, Bool, true, false, ◌||◌, ◌⊎◌, List, [], ◌∷◌, ◌++◌, codes, Decides, refl, ap, ◌∙◌, inl, inr}
-use borrow.Author.Tests.{clash}
+use Rattle.std.proofs.Common.{◌≡◌, ℕ, true, ◌⊎◌, List, [], ◌∷◌, ◌++◌, codes, Decides, refl, ap, ◌∙◌, inl, inr}
+use Rattle.std.proofs.lemmas.Bool.{or_cases, or_left, or_right}
 use Rattle.std.specs.Str.{bytes_eq}
 use Rattle.std.proofs.lemmas.Slice.Eq.{bytes_eq-Decides}
 use Rattle.names.specs.TypeName.{IsAction, ends_with, is_action}
 
-or_true : (a b : Bool) → a || b ≡ true → (a ≡ true) ⊎ (b ≡ true)
-or_true true b h = inl refl
-or_true false b h = inr h
-
-or_right : (a b : Bool) → b ≡ true → a || b ≡ true
-or_right true b h = refl
-or_right false b h = h
-
-or_left : (a b : Bool) → a ≡ true → a || b ≡ true
-or_left true b h = refl
-or_left false b h = elim (clash h) [ ]
-
 -- Where a text ends with a part, it is some front and the part.
 ends_split : (part text : List ℕ) → ends_with part text ≡ true → (front : List ℕ) × (text ≡ front ++ part)
 ends_split part [] h = ([], (bytes_eq-Decides [] part).0 h)
-ends_split part (b ∷ bs) h = by (or_true (bytes_eq (b ∷ bs) part) (ends_with part bs) h) (ends_split part bs) where
+ends_split part (b ∷ bs) h = by (or_cases (bytes_eq (b ∷ bs) part) (ends_with part bs) h) (ends_split part bs) where
   by : (bytes_eq (b ∷ bs) part ≡ true) ⊎ (ends_with part bs ≡ true)
       → (ends_with part bs ≡ true → (front : List ℕ) × (bs ≡ front ++ part)) → (front : List ℕ) × (b ∷ bs ≡ front ++ part)
   by (inl e) f = ([], (bytes_eq-Decides (b ∷ bs) part).0 e)
@@ -36,7 +24,7 @@ split_ends part (b ∷ front) = or_right (bytes_eq (b ∷ (front ++ part)) part)
 
 pub action_decides : (text : List ℕ) → Decides (is_action text) (IsAction text)
 action_decides text = (
-  λ h. elim (or_true (bytes_eq text (codes "Action")) (ends_with (codes "::Action") text) h) [
+  λ h. elim (or_cases (bytes_eq text (codes "Action")) (ends_with (codes "::Action") text) h) [
     | inl e ↦ inl ((bytes_eq-Decides text (codes "Action")).0 e, refl)
     | inr e ↦ let r = ends_split (codes "::Action") text e in inr (r.0, r.1, refl)
   ],

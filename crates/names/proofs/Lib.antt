@@ -1,6 +1,7 @@
-pub mod Bools
 pub mod Pieces
+pub mod Keeping
 pub mod Names
 pub mod Naming
 pub mod TypeNames
 pub mod Actions
+pub mod Entities

@@ -1,14 +1,20 @@
 -- Numbers of texts.
-use Rattle.std.proofs.Common.{◌≡◌, ℕ, zero, suc, ◌+◌, ◌-◌, ◌<◌, ◌≤◌, Bool, true, false, cond, ◌&&◌, ltb, leb, List, [], ◌∷◌, ◌++◌, length, get_or, take, drop, Some, None, Ok, Err, Option, sym, refl, ap, ◌∙◌, subst, arith, length-drop, length-take-le, ltb-true, le-ltb, lt-ltb, eqb-true, le-leb, leb-true}
+use Rattle.std.proofs.Common.{◌≡◌, ℕ, zero, suc, ◌<◌, ◌≤◌, Bool, true, false, cond, eqb, List, [], ◌∷◌, ◌++◌, length, get_or, Some, None, Ok, Err, Option, sym, refl, ap, ◌∙◌, subst, inl, inr, arith, le-ltb, lt-ltb}
 use borrow.Author.Tests.{clash}
 use Rattle.std.specs.Str.{bytes_eq}
 use Rattle.refusals.specs.declared.refusal.Refusal.TheVariants.{UnknownName}
-use Rattle.std.proofs.lemmas.Slice.Eq.{bytes_eq-Decides}
-use Rattle.std.proofs.lemmas.Bool.Decides.{same_from_decides}
-use Rattle.names.specs.Pieces.{pieces, rising}
-use Rattle.names.specs.Names.{later, number_of, distinct, bytes_in, fits, text_answer, OneToOne}
-use Rattle.names.proofs.Bools.{and_true}
-use Rattle.names.proofs.Pieces.{rising_total, length-pieces}
+use Rattle.std.proofs.lemmas.Slice.Eq.{bytes_eq-Decides, slice_eq-Decides}
+use Rattle.std.proofs.lemmas.Bool.Decides.{Decides-eqb}
+use Rattle.std.specs.Option.{MatchOption}
+use Rattle.std.specs.Cmp.Lexicographic.{pointwise}
+use Rattle.names.specs.Names.{later, number_of, distinct, text_answer, OneToOne}
+use Rattle.names.specs.Lent.{lent}
+use Rattle.std.specs.Prelude.{ok_or}
+use Rattle.std.specs.Borrow.{Bor}
+use Rattle.std.specs.List.{slice_get}
+use Rattle.std.specs.Option.{option_map}
+use Rattle.std.proofs.lemmas.Bool.{cases_lt}
+use Rattle.std.proofs.lemmas.Option.{slice_get-get_or, slice_get_past}
 
 -- Two tests of one pair of texts.
 not_same : (s t : List ℕ) → (s ≡ t → ⊥) → bytes_eq s t ≡ false
@@ -34,6 +40,20 @@ number_none text [] absent = refl
 number_none text (t ∷ ts) absent =
     ap (λ (b : Bool). cond b (Some 0) (later (number_of text ts))) (not_same t text (absent 0 (omega arith)))
     ∙ ap later (number_none text ts (λ k l. absent (suc k) (omega arith)))
+
+-- The first number whose text it is, if any, among all numbers.
+pub number_found : (text : List ℕ) (texts : List (List ℕ)) (count : ℕ) (o : Option ℕ) → count ≡ length texts
+    → MatchOption o ((k : ℕ) → 0 ≤ k → k < count → get_or texts k [] ≡ text → ⊥) (λ n. (0 ≤ n) × (n < count) × (get_or texts n [] ≡ text) × ((k : ℕ) → 0 ≤ k → k < n → get_or texts k [] ≡ text → ⊥))
+    → o ≡ number_of text texts
+number_found text texts count None c f = sym (number_none text texts (λ k h. f k (omega arith) (omega arith)))
+number_found text texts count (Some n) c w = sym (number_at text texts n (λ k h. w.3 k (omega arith) h) (omega (arith, w.1)) w.2)
+
+-- Where `==` says yes of a piece, it is the text; where it says no, it is not.
+pub same_piece : (piece text held : List ℕ) → true ≡ pointwise eqb piece text → piece ≡ held → held ≡ text
+same_piece piece text held e h = sym h ∙ (slice_eq-Decides Decides-eqb piece text true e).0 refl
+
+pub other_piece : (piece text held : List ℕ) → false ≡ pointwise eqb piece text → piece ≡ held → held ≡ text → ⊥
+other_piece piece text held e h s = clash ((slice_eq-Decides Decides-eqb piece text false e).1 (h ∙ s))
 
 -- What a text's number says, where it has one.
 abbrev Stands : List ℕ → List (List ℕ) → Option ℕ → Type 0
@@ -109,55 +129,18 @@ distinct_more (t ∷ ts) new d e =
     ap (λ (o : Option ℕ). elim o [ None ↦ distinct (ts ++ (new ∷ [])) | Some k ↦ false ]) n
     ∙ distinct_more ts new w.1 v.1
 
--- All bytes are bytes of the texts.
-pub bytes_pieces : (start : ℕ) (ends all : List ℕ) → rising start ends (length all) ≡ true
-    → start + bytes_in (pieces start ends all) ≡ length all
-bytes_pieces start [] all h = let e = eqb-true start (length all) h in omega arith
-bytes_pieces start (end ∷ ends) all h =
-    let w = and_true (leb start end) (rising end ends (length all)) h in
-    let l = leb-true start end w.0 in
-    let t = rising_total end ends (length all) w.1 in
-    let e : length (take (end - start) (drop start all)) ≡ end - start =
-    length-take-le (end - start) (drop start all) (omega (arith, length-drop start all)) in
-    let k = bytes_pieces end ends all w.1 in
-    omega arith
+-- What reading answers, by the text of the number.
+pub text_read : (texts : List (List ℕ)) (n : ℕ) → text_answer texts n ≡ ok_or (slice_get texts n) (UnknownName n)
+text_read texts n =
+    elim (cases_lt n (length texts)) [
+      | inl h ↦ ap (λ (b : Bool). cond b (Ok (get_or texts n [])) (Err (UnknownName n))) (lt-ltb n (length texts) h)
+          ∙ sym (ap (λ (o : Option (List ℕ)). ok_or o (UnknownName n)) (slice_get-get_or texts n [] h))
+      | inr h ↦ ap (λ (b : Bool). cond b (Ok (get_or texts n [])) (Err (UnknownName n))) (le-ltb n (length texts) h)
+          ∙ sym (ap (λ (o : Option (List ℕ)). ok_or o (UnknownName n)) (slice_get_past texts n h))
+    ]
 
--- What room for a text says of the places and bytes in use.
-pub roomy : (ends all text : List ℕ) (count total places room : ℕ) → count ≡ length ends → total ≡ length all → rising 0 ends total ≡ true
-    → fits (record { places = places; room = room }) (pieces 0 ends all) text ≡ true → (count < places) × (total + length text ≤ room)
-roomy ends all text count total places room c t r f =
-    let l = length-pieces 0 ends all in
-    let b = bytes_pieces 0 ends all (ap (λ (n : ℕ). rising 0 ends n) (sym t) ∙ r) in
-    let w = and_true (ltb (length (pieces 0 ends all)) places) (leb (bytes_in (pieces 0 ends all) + length text) room) f in
-    let p = ltb-true (length (pieces 0 ends all)) places w.0 in
-    let q = leb-true (bytes_in (pieces 0 ends all) + length text) room w.1 in
-    (omega arith, omega arith)
-
--- No place is left.
-pub no_place : (ends all text : List ℕ) (count total places room : ℕ) → count ≡ length ends → places ≤ count
-    → false ≡ fits (record { places = places; room = room }) (pieces 0 ends all) text
-no_place ends all text count total places room c h =
-    sym (ap (λ (b : Bool). b && leb (bytes_in (pieces 0 ends all) + length text) room)
-    (le-ltb (length (pieces 0 ends all)) places (omega (arith, length-pieces 0 ends all))))
-
--- Where a place is left, the bytes decide.
-pub by_bytes : (ends all text : List ℕ) (count total places room : ℕ) → count ≡ length ends → total ≡ length all → rising 0 ends total ≡ true
-    → count < places → total ≤ room → leb (length text) (room - total) ≡ fits (record { places = places; room = room }) (pieces 0 ends all) text
-by_bytes ends all text count total places room c t r h s =
-    let b : 0 + bytes_in (pieces 0 ends all) ≡ length all = bytes_pieces 0 ends all (ap (λ (n : ℕ). rising 0 ends n) (sym t) ∙ r) in
-    same_from_decides {P = length text ≤ room - total} (leb (length text) (room - total)) (leb (bytes_in (pieces 0 ends all) + length text) room)
-    (leb-true (length text) (room - total), le-leb (length text) (room - total)) (
-      (λ e. let k = leb-true (bytes_in (pieces 0 ends all) + length text) room e in omega arith),
-      λ h. le-leb (bytes_in (pieces 0 ends all) + length text) room (omega arith),
-    )
-    ∙ sym (ap (λ (d : Bool). d && leb (bytes_in (pieces 0 ends all) + length text) room)
-    (lt-ltb (length (pieces 0 ends all)) places (omega (arith, length-pieces 0 ends all))))
-
--- Reading a number below the count.
-pub text_known : (texts : List (List ℕ)) (n : ℕ) (text : List ℕ) → n < length texts → text ≡ get_or texts n [] → Ok text ≡ text_answer texts n
-text_known texts n text h e =
-    ap Ok e ∙ sym (ap (λ (b : Bool). cond b (Ok (get_or texts n [])) (Err (UnknownName n))) (lt-ltb n (length texts) h))
-
--- Reading a number past it.
-pub text_unknown : (texts : List (List ℕ)) (n : ℕ) → length texts ≤ n → Err (UnknownName n) ≡ text_answer texts n
-text_unknown texts n h = sym (ap (λ (b : Bool). cond b (Ok (get_or texts n [])) (Err (UnknownName n))) (le-ltb n (length texts) h))
+-- The same, of a text that is lent.
+pub text_lent : (texts : List (List ℕ)) (n : ℕ) (o : Option (Bor (List ℕ))) → option_map (λ x. x.now) o ≡ slice_get texts n
+    → lent (ok_or o (record { number = n })) ≡ text_answer texts n
+text_lent texts n None e = sym (text_read texts n ∙ sym (ap (λ (o : Option (List ℕ)). ok_or o (UnknownName n)) e))
+text_lent texts n (Some x) e = sym (text_read texts n ∙ sym (ap (λ (o : Option (List ℕ)). ok_or o (UnknownName n)) e))

@@ -1,13 +1,13 @@
 -- What a name book means: its texts by number, and its limits.
-use Rattle.std.specs.Prelude.{ℕ, List, vec_items}
+use Rattle.std.specs.Prelude.{ℕ, List}
 use Rattle.names.specs.declared.kept.NameBook.{NameBook}
-use Rattle.names.specs.Pieces.{pieces}
+use Rattle.names.specs.Kept.{kept, limits_of}
 use Rattle.names.specs.Names.{Limits}
 
 -- The texts of a book, in the order of their numbers.
 abbrev pub texts : NameBook → List (List ℕ)
-texts book = pieces 0 (vec_items book.ends) (vec_items book.bytes)
+texts book = kept book.texts
 
 -- The limits that a book was made with.
 abbrev pub limits : NameBook → Limits
-limits book = record { places = book.places; room = book.room }
+limits book = limits_of book.texts

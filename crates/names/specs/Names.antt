@@ -24,18 +24,18 @@ abbrev pub distinct : List (List ℕ) → Bool
 distinct [] = true
 distinct (t ∷ ts) = elim (number_of t ts) [ None ↦ distinct ts | Some n ↦ false ]
 
--- The bytes of all texts together.
-abbrev pub bytes_in : List (List ℕ) → ℕ
+-- The items of all lists together: of texts, their bytes.
+abbrev pub bytes_in : {X : Type 0} → List (List X) → ℕ
 bytes_in [] = 0
 bytes_in (t ∷ ts) = length t + bytes_in ts
 
+-- Whether so many lists more, of so many items together, keep within the limits.
+abbrev pub room_for : {X : Type 0} → Limits → List (List X) → ℕ → ℕ → Bool
+room_for limits texts count bytes = nat_le (length texts + count) limits.places && nat_le (bytes_in texts + bytes) limits.room
+
 -- Whether one text more keeps within the limits.
 abbrev pub fits : Limits → List (List ℕ) → List ℕ → Bool
-fits limits texts text = nat_lt (length texts) limits.places && nat_le (bytes_in texts + length text) limits.room
-
--- Whether so many texts more, of so many bytes together, keep within the limits.
-abbrev pub room_for : Limits → List (List ℕ) → ℕ → ℕ → Bool
-room_for limits texts count bytes = nat_le (length texts + count) limits.places && nat_le (bytes_in texts + bytes) limits.room
+fits limits texts text = room_for limits texts 1 (length text)
 
 -- A text that is not there gets the next number, or refusal 4.
 abbrev pub enter_answer : Limits → List (List ℕ) → List ℕ → Result ℕ Refusal

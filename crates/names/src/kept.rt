@@ -1,20 +1,14 @@
-ghost use Rattle.std.specs.Prelude.{◌≡◌, ◌≤◌, true, vec_len, vec_capacity};
-ghost use Rattle.names.specs.Pieces.{pieces, rising as rises};
+ghost use Rattle.std.specs.Prelude.{◌≡◌, ◌≤◌, true};
+ghost use Rattle.names.specs.Kept.{kept, limits_of};
 ghost use Rattle.names.specs.Names.{distinct as apart};
 
-// Texts by number: kept end to end, with where each ends. Its memory is reserved when it is made.
+use crate::keeper::Pieces;
+
+// Texts by number, of which no two are equal. Its memory is reserved when it is made.
 #[derive(Drop)]
 pub struct NameBook {
-    pub(crate) bytes: Vec<u8>,
-    pub(crate) ends: Vec<usize>,
-    pub(crate) places: usize,
-    pub(crate) room: usize,
-    ghost rising: { rises 0 ends.items (vec_len bytes) ≡ true },
-    ghost distinct: { apart (pieces 0 ends.items bytes.items) ≡ true },
-    ghost few: { vec_len ends ≤ places },
-    ghost short: { vec_len bytes ≤ room },
-    ghost most_places: { places ≤ 1024 },
-    ghost most_room: { room ≤ 65535 },
-    ghost places_reserved: { places ≤ vec_capacity ends },
-    ghost room_reserved: { room ≤ vec_capacity bytes },
+    pub(crate) texts: Pieces<u8>,
+    ghost distinct: { apart (kept texts) ≡ true },
+    ghost most_places: { (limits_of texts).places ≤ 1024 },
+    ghost most_room: { (limits_of texts).room ≤ 65535 },
 }

@@ -1,7 +1,8 @@
 -- The tests of equality against equality itself.
-use Rattle.std.proofs.Common.{◌≡◌, ℕ, zero, suc, Bool, true, eqb, List, [], ◌∷◌, Some, None, Decides, Option, sym, refl, ap, ◌∙◌, subst}
+use Rattle.std.proofs.Common.{◌≡◌, ℕ, zero, suc, Bool, true, eqb, List, Some, None, Decides, Option, sym, refl, ap, ◌∙◌, subst}
+use Rattle.std.specs.Cmp.Lexicographic.{pointwise, pointwise_decides}
 use Rattle.std.proofs.lemmas.Bool.{and_from, and_parts, eqb-true, eq-eqb, false≢true}
-use Rattle.names.specs.declared.entity.EntityUID.{EntityUID}
+use Rattle.names.proofs.Entities.{entity_only, entity_itself}
 use Rattle.clauses.specs.Book.{Clause, Same, at, same_content, same_clause}
 use Rattle.clauses.specs.Book as book
 use Rattle.policy.specs.declared.constraint.Effect.{Effect}
@@ -10,26 +11,22 @@ use Rattle.policy.specs.declared.constraint.EntityReference.{EntityReference}
 use Rattle.policy.specs.declared.constraint.EntityReference.TheVariants.{EUID, Slot}
 use Rattle.policy.specs.declared.constraint.PrincipalOrResourceConstraint.{PrincipalOrResourceConstraint}
 use Rattle.policy.specs.declared.constraint.PrincipalOrResourceConstraint.TheVariants as scope
-use Rattle.policy.specs.declared.action.ActionConstraint.{ActionConstraint}
-use Rattle.policy.specs.declared.action.ActionConstraint.TheVariants as action
+use Rattle.policy.specs.declared.action.ActionIn.TheVariants as action
 use Rattle.policy.specs.declared.values.SlotEnv.{SlotEnv}
 use Rattle.policy.specs.declared.template.Template.{Template}
 use Rattle.policy.specs.declared.bound.Policy.{Policy}
-use Rattle.policy.specs.Scopes.{kind, type_of, reference_of, listed}
-use Rattle.policy.specs.Equality.{effect_equal, entity_equal, reference_equal, option_equal, list_equal, scope_equal, scopes_equal, action_equal, template_equal, values_equal, policy_equal}
+use Rattle.policy.specs.Scopes.{ActionConstraint, kind, type_of, reference_of, listed}
+use Rattle.policy.specs.Equality.{effect_equal, entity_equal, reference_equal, option_equal, scope_equal, scopes_equal, action_equal, template_equal, values_equal, policy_equal}
 use Rattle.policy.specs.Equal.{EqualClauses, EqualTemplates, EqualPolicies}
-use Rattle.policy.proofs.Records.{slot_sets, action_lists}
+use Rattle.refusals.proofs.Sets.{slot_sets}
+use Rattle.policy.proofs.Records.{action_lists}
 
--- A test that says yes of equal things, and of no others.
-pub record Tests {X : Type 0} (same : X → X → Bool) : Type 0 where
-  pub only : (x y : X) → same x y ≡ true → x ≡ y
-  pub itself : (x : X) → same x x ≡ true
+-- A test that says yes of equal things alone, and of each thing and itself.
+tests : {X : Type 0} (same : X → X → Bool) → ((x y : X) → same x y ≡ true → x ≡ y) → ((x : X) → same x x ≡ true) → book.Decides same
+tests {X} same only itself = record { only = only; whenever = λ x y e. subst (λ (z : X). same x z ≡ true) e (itself x) }
 
-pub whenever : {X : Type 0} (same : X → X → Bool) → Tests same → (x y : X) → x ≡ y → same x y ≡ true
-whenever {X} same t x y e = subst (λ (z : X). same x z ≡ true) e (t.itself x)
-
-pub numbers : Tests eqb
-numbers = record { only = eqb-true; itself = λ n. eq-eqb n n refl }
+pub numbers : book.Decides eqb
+numbers = record { only = eqb-true; whenever = eq-eqb }
 
 effect_only : (a b : Effect) → effect_equal a b ≡ true → a ≡ b
 effect_only Permit Permit h = refl
@@ -41,21 +38,11 @@ effect_itself : (a : Effect) → effect_equal a a ≡ true
 effect_itself Permit = refl
 effect_itself Forbid = refl
 
-effects : Tests effect_equal
-effects = record { only = effect_only; itself = effect_itself }
+pub effects : book.Decides effect_equal
+effects = tests effect_equal effect_only effect_itself
 
-entity_only : (a b : EntityUID) → entity_equal a b ≡ true → a ≡ b
-entity_only a b h =
-    let p = and_parts (eqb a.ty b.ty) (eqb a.eid b.eid) h in
-    let t = eqb-true a.ty b.ty p.0 in
-    let e = eqb-true a.eid b.eid p.1 in
-    λ i. record { ty = t i; eid = e i }
-
-pub entities : Tests entity_equal
-entities = record {
-  only = entity_only;
-  itself = λ a. and_from (eqb a.ty a.ty) (eqb a.eid a.eid) (eq-eqb a.ty a.ty refl) (eq-eqb a.eid a.eid refl);
-}
+pub entities : book.Decides entity_equal
+entities = tests entity_equal entity_only entity_itself
 
 reference_only : (a b : EntityReference) → reference_equal a b ≡ true → a ≡ b
 reference_only (EUID a) (EUID b) h = ap EUID (entity_only a b h)
@@ -64,13 +51,13 @@ reference_only Slot (EUID b) h = elim (false≢true h) [ ]
 reference_only Slot Slot h = refl
 
 reference_itself : (a : EntityReference) → reference_equal a a ≡ true
-reference_itself (EUID a) = entities.itself a
+reference_itself (EUID a) = entities.whenever a a refl
 reference_itself Slot = refl
 
-references : Tests reference_equal
-references = record { only = reference_only; itself = reference_itself }
+references : book.Decides reference_equal
+references = tests reference_equal reference_only reference_itself
 
-module _ {X : Type 0} (same : X → X → Bool) (t : Tests same) where
+module _ {X : Type 0} (same : X → X → Bool) (t : book.Decides same) where
   option_only : (a b : Option X) → option_equal same a b ≡ true → a ≡ b
   option_only None None h = refl
   option_only None (Some b) h = elim (false≢true h) [ ]
@@ -79,27 +66,16 @@ module _ {X : Type 0} (same : X → X → Bool) (t : Tests same) where
 
   option_itself : (a : Option X) → option_equal same a a ≡ true
   option_itself None = refl
-  option_itself (Some a) = t.itself a
+  option_itself (Some a) = t.whenever a a refl
 
-  pub options : Tests (option_equal same)
-  options = record { only = option_only; itself = option_itself }
+  pub options : book.Decides (option_equal same)
+  options = tests (option_equal same) option_only option_itself
 
-  list_only : (xs ys : List X) → list_equal same xs ys ≡ true → xs ≡ ys
-  list_only [] [] h = refl
-  list_only [] (y ∷ ys) h = elim (false≢true h) [ ]
-  list_only (x ∷ xs) [] h = elim (false≢true h) [ ]
-  list_only (x ∷ xs) (y ∷ ys) h =
-      let p = and_parts (same x y) (list_equal same xs ys) h in
-      let a = t.only x y p.0 in
-      let b = list_only xs ys p.1 in
-      λ i. a i ∷ b i
+  decided : (x y : X) → Decides (same x y) (x ≡ y)
+  decided x y = (t.only x y, t.whenever x y)
 
-  list_itself : (xs : List X) → list_equal same xs xs ≡ true
-  list_itself [] = refl
-  list_itself (x ∷ xs) = and_from (same x x) (list_equal same xs xs) (t.itself x) (list_itself xs)
-
-  pub lists : Tests (list_equal same)
-  lists = record { only = list_only; itself = list_itself }
+  pub lists : book.Decides (pointwise same)
+  lists = record { only = λ xs ys. (pointwise_decides decided xs ys).0; whenever = λ xs ys. (pointwise_decides decided xs ys).1 }
 
 -- The scope that is made of such parts.
 made_of : ℕ → Option ℕ → Option EntityReference → PrincipalOrResourceConstraint
@@ -137,15 +113,15 @@ scope_itself a =
     (and_from (option_equal eqb (type_of a) (type_of a)) (option_equal reference_equal (reference_of a) (reference_of a))
     (option_itself eqb numbers (type_of a)) (option_itself reference_equal references (reference_of a)))
 
-pub scopes : Tests scope_equal
-scopes = record { only = scope_only; itself = scope_itself }
+pub scopes : book.Decides scope_equal
+scopes = tests scope_equal scope_only scope_itself
 
 action_only : (a b : ActionConstraint) → action_equal a b ≡ true → a ≡ b
 action_only action.Any action.Any h = refl
 action_only action.Any (action.In l) h = elim (false≢true h) [ ]
 action_only action.Any (action.Eq e) h = elim (false≢true h) [ ]
 action_only (action.In l) action.Any h = elim (false≢true h) [ ]
-action_only (action.In l) (action.In m) h = ap action.In (action_lists l m (list_only entity_equal entities (listed l) (listed m) h))
+action_only (action.In l) (action.In m) h = ap action.In (action_lists l m ((lists entity_equal entities).only (listed l) (listed m) h))
 action_only (action.In l) (action.Eq e) h = elim (false≢true h) [ ]
 action_only (action.Eq e) action.Any h = elim (false≢true h) [ ]
 action_only (action.Eq e) (action.In l) h = elim (false≢true h) [ ]
@@ -153,11 +129,11 @@ action_only (action.Eq e) (action.Eq f) h = ap action.Eq (entity_only e f h)
 
 action_itself : (a : ActionConstraint) → action_equal a a ≡ true
 action_itself action.Any = refl
-action_itself (action.In l) = list_itself entity_equal entities (listed l)
-action_itself (action.Eq e) = entities.itself e
+action_itself (action.In l) = (lists entity_equal entities).whenever (listed l) (listed l) refl
+action_itself (action.Eq e) = entities.whenever e e refl
 
-pub actions : Tests action_equal
-actions = record { only = action_only; itself = action_itself }
+pub actions : book.Decides action_equal
+actions = tests action_equal action_only action_itself
 
 values_only : (a b : SlotEnv) → values_equal a b ≡ true → a ≡ b
 values_only a b h =
@@ -166,12 +142,11 @@ values_only a b h =
     let y = option_only entity_equal entities a.resource b.resource p.1 in
     λ i. record { principal = x i; resource = y i }
 
-pub environments : Tests values_equal
-environments = record {
-  only = values_only;
-  itself = λ a. and_from (option_equal entity_equal a.principal a.principal) (option_equal entity_equal a.resource a.resource)
-      (option_itself entity_equal entities a.principal) (option_itself entity_equal entities a.resource);
-}
+pub environments : book.Decides values_equal
+environments =
+    tests values_equal values_only
+    (λ a. and_from (option_equal entity_equal a.principal a.principal) (option_equal entity_equal a.resource a.resource)
+    (option_itself entity_equal entities a.principal) (option_itself entity_equal entities a.resource))
 
 module _ {C : Type 0} (equal : C → C → Bool) (cs : List (Clause C)) (d : book.Decides equal) where
   same_only : (m n : ℕ) (a b : Option (Clause C)) → at cs m ≡ a → at cs n ≡ b → same_content equal a b ≡ true → Same cs m n
@@ -219,12 +194,12 @@ module _ {C : Type 0} (equal : C → C → Bool) (cs : List (Clause C)) (d : boo
   template_whenever : (a b : Template) → EqualTemplates cs a b → template_equal (same_clause equal cs) a b ≡ true
   template_whenever a b e =
       and_from (eqb a.id b.id) _ (eq-eqb a.id b.id e.id)
-      (and_from (effect_equal a.effect b.effect) _ (whenever effect_equal effects a.effect b.effect e.effect)
+      (and_from (effect_equal a.effect b.effect) _ (effects.whenever a.effect b.effect e.effect)
       (and_from (scopes_equal a b) _
-      (and_from (scope_equal a.principal b.principal) _ (whenever scope_equal scopes a.principal b.principal e.principal)
+      (and_from (scope_equal a.principal b.principal) _ (scopes.whenever a.principal b.principal e.principal)
       (and_from (action_equal a.action b.action) (scope_equal a.resource b.resource)
-      (whenever action_equal actions a.action b.action e.action)
-      (whenever scope_equal scopes a.resource b.resource e.resource)))
+      (actions.whenever a.action b.action e.action)
+      (scopes.whenever a.resource b.resource e.resource)))
       (and_from (option_equal (same_clause equal cs) a.clause b.clause) (eqb a.slots.bits b.slots.bits)
       (clause_whenever a.clause b.clause e.clause)
       (eq-eqb a.slots.bits b.slots.bits (λ i. (e.slots i).bits)))))
@@ -247,8 +222,8 @@ module _ {C : Type 0} (equal : C → C → Bool) (cs : List (Clause C)) (d : boo
   policy_whenever a b e =
       and_from (template_equal (same_clause equal cs) a.template b.template) _ (template_whenever a.template b.template e.template)
       (and_from (option_equal eqb a.link b.link) (values_equal a.values b.values)
-      (whenever (option_equal eqb) (options eqb numbers) a.link b.link e.link)
-      (whenever values_equal environments a.values b.values e.values))
+      ((options eqb numbers).whenever a.link b.link e.link)
+      (environments.whenever a.values b.values e.values))
 
   -- The test of policies is equality in words.
   pub policies_decided : (a b : Policy) (r : Bool) → r ≡ policy_equal (same_clause equal cs) a b → Decides r (EqualPolicies cs a b)

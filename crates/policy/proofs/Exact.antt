@@ -9,7 +9,8 @@ use Rattle.policy.specs.declared.bound.Policy.{Policy}
 use Rattle.policy.specs.Binding.{value_slots}
 use Rattle.policy.specs.Slots.{has, bound, set_of}
 use Rattle.policy.specs.Arity.{unbound, extra, bindable, Exact, AcceptsExact}
-use Rattle.policy.proofs.Bits.{bit, value_sum, covers, set_bits, none_left}
+use Rattle.refusals.proofs.Bits.{bit, set_bits}
+use Rattle.policy.proofs.Bits.{value_sum, covers, none_left}
 
 -- No slot is left without a value, and no value without a slot.
 abbrev pub settled : SlotSet → SlotEnv → Bool

@@ -1,6 +1,6 @@
-pub mod Lists
 pub mod Records
 pub mod Deciding
+pub mod Derived
 pub mod Testing
 pub mod Bits
 pub mod Exact
@@ -13,7 +13,6 @@ pub mod Trees
 pub mod Propers
 pub mod Worth
 pub mod Worded
-pub mod Sets
 pub mod Mentioned
 pub mod Within
 pub mod Makings

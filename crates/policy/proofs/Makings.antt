@@ -5,9 +5,8 @@ use Rattle.refusals.specs.declared.refusal.Refusal.TheVariants.{TooManyActions}
 use Rattle.clauses.specs.Book.{Clause}
 use Rattle.policy.specs.declared.constraint.Effect.{Effect}
 use Rattle.policy.specs.declared.constraint.PrincipalOrResourceConstraint.{PrincipalOrResourceConstraint}
-use Rattle.policy.specs.declared.scope.ActionScope.{ActionScope}
-use Rattle.policy.specs.declared.action.ActionConstraint.{ActionConstraint}
 use Rattle.policy.specs.declared.template.Template.{Template}
+use Rattle.policy.specs.Scopes.{ActionConstraint, ActionScope}
 use Rattle.policy.specs.Known.{and_then, template_known}
 use Rattle.policy.specs.Filled.{scopes_within}
 use Rattle.policy.specs.Making.{given_actions, GivenAction, MakesAction, types_kept, template_types, Made, template_kept, Makes}

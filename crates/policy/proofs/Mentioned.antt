@@ -1,5 +1,6 @@
 -- The slots of a condition, part by part.
-use Rattle.std.proofs.Common.{◌≡◌, ℕ, Bool, true, false, ◌&&◌, ◌||◌, List, [], ◌∷◌, ◌++◌, map, Some, None, Option, sym, refl, ap, ◌∙◌}
+use Rattle.std.proofs.Common.{◌≡◌, ℕ, Bool, false, ◌&&◌, ◌||◌, List, [], ◌∷◌, ◌++◌, map, Some, None, Option, sym, refl, ap, ◌∙◌}
+use Rattle.std.proofs.Math.Bool.{or_assoc, or-false}
 use Rattle.refusals.specs.declared.slots.SlotId.{SlotId}
 use Rattle.refusals.specs.declared.slots.SlotId.TheVariants.{Principal, Resource}
 use Rattle.names.specs.declared.entity.EntityUID.{EntityUID}
@@ -9,12 +10,11 @@ use Rattle.policy.specs.declared.constraint.EntityReference.{EntityReference}
 use Rattle.policy.specs.declared.constraint.EntityReference.TheVariants.{EUID, Slot}
 use Rattle.policy.specs.declared.constraint.PrincipalOrResourceConstraint.{PrincipalOrResourceConstraint}
 use Rattle.policy.specs.declared.constraint.PrincipalOrResourceConstraint.TheVariants as scope
-use Rattle.policy.specs.declared.action.ActionConstraint.{ActionConstraint}
-use Rattle.policy.specs.declared.action.ActionConstraint.TheVariants as action
+use Rattle.policy.specs.declared.action.ActionIn.TheVariants as action
 use Rattle.policy.specs.declared.template.Template.{Template}
 use Rattle.policy.specs.declared.node.ConditionNode.{ConditionNode}
 use Rattle.policy.specs.declared.node.ConditionNode.TheVariants as node
-use Rattle.policy.specs.Scopes.{listed}
+use Rattle.policy.specs.Scopes.{ActionConstraint, listed}
 use Rattle.policy.specs.Filling.{slotted}
 use Rattle.policy.specs.Slots.{has_bit, slot_equal}
 use Rattle.policy.specs.Condition.{leaf, constant, both, folded, and_tree, reference_node, scope_tree, principal_tree, resource_tree, action_tree, constant_node, clause_node, condition_tree}
@@ -22,14 +22,6 @@ use Rattle.policy.specs.Mentions.{mentions, mentioned, clause_has, part_has}
 use Rattle.policy.proofs.Joined.{takes_none, written-constant, some_both}
 use Rattle.policy.proofs.Propers.{Good, good_and, good_principal, good_action, good_resource, good_clause}
 use Rattle.policy.proofs.Trees.{written_actions}
-
-or_assoc : (a b c : Bool) → ((a || b) || c) ≡ (a || (b || c))
-or_assoc true b c = refl
-or_assoc false b c = refl
-
-or_none : (a : Bool) → (a || false) ≡ a
-or_none true = refl
-or_none false = refl
 
 module _ {C : Type 0} (cs : List (Clause C)) (slot : SlotId) where
   abbrev here : List ConditionNode → Bool
@@ -47,7 +39,7 @@ module _ {C : Type 0} (cs : List (Clause C)) (slot : SlotId) where
   here_folded : (o : Option Bool) (a b : Tree ConditionNode) → Good a → Good b → both (constant a.top) (constant b.top) ≡ o
       → here (written (folded o a b)) ≡ (here (written a) || here (written b))
   here_folded None a b p q e =
-      here_append (written a ++ written b) (node.And ∷ []) ∙ or_none (here (written a ++ written b)) ∙ here_append (written a) (written b)
+      here_append (written a ++ written b) (node.And ∷ []) ∙ or-false (here (written a ++ written b)) ∙ here_append (written a) (written b)
   here_folded (Some c) a b p q e =
       let s = some_both (constant a.top) (constant b.top) c (sym e) in
       let x = here_constant a s.0 p s.2 in
@@ -64,10 +56,10 @@ module _ {C : Type 0} (cs : List (Clause C)) (slot : SlotId) where
 
     here_scope : (c : PrincipalOrResourceConstraint) → here (written (scope_tree v s c)) ≡ (slotted c && test)
     here_scope scope.Any = refl
-    here_scope (scope.In r) = (λ i. ev i || (here_reference r i || false)) ∙ or_none (slotted (scope.In r) && test)
-    here_scope (scope.Eq r) = (λ i. ev i || (here_reference r i || false)) ∙ or_none (slotted (scope.In r) && test)
+    here_scope (scope.In r) = (λ i. ev i || (here_reference r i || false)) ∙ or-false (slotted (scope.In r) && test)
+    here_scope (scope.Eq r) = (λ i. ev i || (here_reference r i || false)) ∙ or-false (slotted (scope.In r) && test)
     here_scope (scope.Is t) = (λ i. ev i || false)
-    here_scope (scope.IsIn t r) = (λ i. ev i || (ev i || (here_reference r i || false))) ∙ or_none (slotted (scope.In r) && test)
+    here_scope (scope.IsIn t r) = (λ i. ev i || (ev i || (here_reference r i || false))) ∙ or-false (slotted (scope.In r) && test)
 
   here_principal : (c : PrincipalOrResourceConstraint) → here (written (principal_tree c)) ≡ (slotted c && slot_equal slot Principal)
   here_principal c = here_scope node.Principal (node.Slot Principal) (slot_equal slot Principal) refl refl c
@@ -90,7 +82,7 @@ module _ {C : Type 0} (cs : List (Clause C)) (slot : SlotId) where
     no_bit Resource = refl
 
     here_listed : (n : ℕ) (o : Option Bool) → constant_of (at cs n) ≡ o → here (constant_node n o ∷ []) ≡ has_bit slot (slots_of (at cs n))
-    here_listed n None e = or_none (has_bit slot (slots_of (at cs n)))
+    here_listed n None e = or-false (has_bit slot (slots_of (at cs n)))
     here_listed n (Some b) e = sym (ap (has_bit slot) (lawful.constant_slotless n b e) ∙ no_bit slot)
 
     here_clause : (c : Option ℕ) → here (clause_node cs c ∷ []) ≡ clause_has cs c slot

@@ -7,7 +7,7 @@ use Rattle.policy.specs.Hierarchy.{Edge, Parent, In, itself, by_parent, is_in, I
 use Rattle.policy.proofs.Deciding.{entities}
 
 reflexive : (h : List Edge) (e : EntityUID) → is_in h e e ≡ true
-reflexive [] e = entities.itself e
+reflexive [] e = entities.whenever e e refl
 reflexive (l ∷ ls) e = or_left (is_in ls e e) (is_in ls e l.child && is_in ls l.parent e) (reflexive ls e)
 
 -- The ways with one edge more.

@@ -1,19 +1,15 @@
 -- Records are equal when their fields are, whatever the proofs that they carry.
-use Rattle.std.proofs.Common.{◌≡◌, ℕ, zero, suc, ◌<◌, ◌≤◌, true, eqb, List, [], ◌∷◌, ◌++◌, length, drop, sym, refl, ap, ◌∙◌, inl, inr, arith, length-drop}
+use Rattle.std.proofs.Common.{◌≡◌, ℕ, zero, suc, ◌≤◌, true, eqb, List, [], ◌∷◌, ◌++◌, length, drop, sym, refl, ap, ◌∙◌, inl, inr, arith, length-drop}
 use mathlib.Core.HLevel.{is_prop→PathP}
 use mathlib.Core.Bool.{Bool-set}
 use native.Mathlib.Nat.{ℕ_set}
 use native.Mathlib.Bridge.{le_prop}
 use Rattle.std.proofs.lemmas.Bool.{eqb-true, false≢true, cases_Bool}
 use Rattle.std.proofs.lemmas.List.{length-take-le, take-append-drop}
-use Rattle.refusals.specs.declared.slots.SlotSet.{SlotSet}
 use Rattle.names.specs.declared.entity.EntityUID.{EntityUID}
 use Rattle.policy.specs.declared.action.ActionList.{ActionList}
 use Rattle.policy.specs.Padding.{blank}
 use Rattle.policy.specs.Scopes.{listed}
-
-pub slot_sets : (a b : SlotSet) → a.bits ≡ b.bits → a ≡ b
-slot_sets a b e = λ i. record { bits = e i; two_bits = is_prop→PathP (λ j. e j < 4) (λ j. le_prop) a.two_bits b.two_bits i }
 
 blank-parts : (e : EntityUID) (es : List EntityUID) → blank (e ∷ es) ≡ true → (e.ty ≡ 0) × (e.eid ≡ 0) × (blank es ≡ true)
 blank-parts e es h =

@@ -2,9 +2,7 @@
 use Rattle.std.proofs.Common.{◌≡◌, ℕ, List, [], ◌∷◌, ◌++◌, IsErrAnd, Ok, Err, Result, sym, refl, ap, ◌∙◌, arith}
 use Rattle.std.proofs.lemmas.Result.{err_from_is_err_and}
 use Rattle.refusals.specs.declared.refusal.Refusal.{Refusal}
-use Rattle.policy.specs.declared.template.Template.{Template}
-use Rattle.policy.specs.Scopes.{actions_of}
-use Rattle.policy.specs.Known.{and_then, in_turn, name_known, names_known, scope_names, entities_names, template_names}
+use Rattle.policy.specs.Known.{and_then, in_turn}
 
 pub stops : {X : Type 0} {e : Refusal} {x : Result (Unit {0}) Refusal} (r : Result X Refusal) → Err e ≡ x → Err e ≡ and_then x r
 stops r h = ap (λ (y : Result (Unit {0}) Refusal). and_then y r) h
@@ -29,17 +27,6 @@ module _ (test : ℕ → Result (Unit {0}) Refusal) where
       → and_then (in_turn test xs) (and_then (in_turn test ys) (in_turn test zs)) ≡ in_turn test (xs ++ (ys ++ zs))
   turn_three xs ys zs =
       sym (turn_append xs (ys ++ zs) ∙ ap (λ (r : Result (Unit {0}) Refusal). and_then (in_turn test xs) r) (turn_append ys zs))
-
--- The names of a template, part by part.
-pub template_tested : (count : ℕ) (t : Template)
-    → and_then (names_known count (t.id ∷ []))
-    (and_then (names_known count (scope_names t.principal))
-    (and_then (names_known count (entities_names (actions_of t.action))) (names_known count (scope_names t.resource))))
-    ≡ names_known count (template_names t)
-template_tested count t =
-    ap (λ (r : Result (Unit {0}) Refusal). and_then (names_known count (t.id ∷ [])) r)
-    (turn_three (name_known count) (scope_names t.principal) (entities_names (actions_of t.action)) (scope_names t.resource))
-    ∙ sym (turn_append (name_known count) (t.id ∷ []) (scope_names t.principal ++ (entities_names (actions_of t.action) ++ scope_names t.resource)))
 
 -- The exit of a `?`.
 pub broke : {X : Type 0} {e : Refusal} (r : Result X Refusal) → IsErrAnd r (λ y. y ≡ e) → r ≡ Err e

@@ -11,7 +11,7 @@ use Rattle.policy.specs.Filling.{slotted}
 use Rattle.policy.specs.Mentions.{mentioned, clause_has, part_has, condition_slots}
 use Rattle.policy.specs.Filled.{scopes_within}
 use Rattle.policy.proofs.Mentioned.{here_condition}
-use Rattle.policy.proofs.Sets.{has_where, same_where}
+use Rattle.refusals.proofs.Sets.{has_where, same_where}
 
 -- The slots of the parts are those of the condition.
 pub parts_slots : {C : Type 0} (cs : List (Clause C)) → Lawful cs → (t : Template)
@@ -39,6 +39,3 @@ within-parts cs t e =
     and_from _ _
     (ap (λ (b : Bool). cond (slotted t.principal) b true) p ∙ first_has (slotted t.principal) (slotted t.resource) (clause_has cs t.clause Principal))
     (ap (λ (b : Bool). cond (slotted t.resource) b true) r ∙ second_has (slotted t.principal) (slotted t.resource) (clause_has cs t.clause Resource))
-
-pub within_condition : {C : Type 0} (cs : List (Clause C)) → Lawful cs → (t : Template) → t.slots ≡ condition_slots cs t → scopes_within t ≡ true
-within_condition cs lawful t e = within-parts cs t (e ∙ sym (parts_slots cs lawful t))

@@ -5,18 +5,16 @@ use Rattle.names.specs.declared.entity.EntityUID.{EntityUID}
 use Rattle.clauses.specs.Book.{Clause}
 use Rattle.policy.specs.declared.constraint.PrincipalOrResourceConstraint.{PrincipalOrResourceConstraint}
 use Rattle.policy.specs.declared.constraint.PrincipalOrResourceConstraint.TheVariants as scope
-use Rattle.policy.specs.declared.action.ActionConstraint.{ActionConstraint}
-use Rattle.policy.specs.declared.action.ActionConstraint.TheVariants as action
+use Rattle.policy.specs.declared.action.ActionIn.TheVariants as action
 use Rattle.policy.specs.declared.values.SlotEnv.{SlotEnv}
 use Rattle.policy.specs.declared.template.Template.{Template}
-use Rattle.policy.specs.Scopes.{listed}
-use Rattle.policy.specs.Equality.{entity_equal}
+use Rattle.policy.specs.Scopes.{ActionConstraint, listed}
 use Rattle.policy.specs.Hierarchy.{Edge, In, is_in}
 use Rattle.policy.specs.Value.{Value, boolean, entity, set, error, in_some}
 use Rattle.policy.specs.Meaning.{World, referred, Within, Member, WithinSome, Holds, HoldsAction, Evaluator, clause_value, HoldsClause, Applies}
 use Rattle.policy.specs.Condition.{condition_tree}
 use Rattle.policy.specs.Evaluation.{tree_value, Means}
-use Rattle.policy.proofs.Deciding.{entities, whenever}
+use Rattle.policy.proofs.Deciding.{entities}
 use Rattle.policy.proofs.Reached.{in_only, in_whenever}
 use Rattle.policy.proofs.Worth.{is_true, equals_it, in_it, holds, holds_action, holds_clause, applies, condition_true}
 
@@ -32,7 +30,7 @@ equals_only x None t = elim (false≢true t) [ ]
 equals_only x (Some e) t = ap Some (sym (entities.only x e t))
 
 equals_whenever : (x : EntityUID) (o : Option EntityUID) → o ≡ Some x → equals_it x o ≡ true
-equals_whenever x o e = ap (λ (y : Option EntityUID). equals_it x y) e ∙ entities.itself x
+equals_whenever x o e = ap (λ (y : Option EntityUID). equals_it x y) e ∙ entities.whenever x x refl
 
 some_only : (h : List Edge) (x : EntityUID) (es : List EntityUID) → in_some h x es ≡ true → WithinSome h x es
 some_only h x [] t = elim (false≢true t) [ ]
@@ -74,7 +72,7 @@ action_only h x (action.Eq e) t = entities.only x e t
 action_whenever : (h : List Edge) (x : EntityUID) (a : ActionConstraint) → HoldsAction h x a → holds_action h x a ≡ true
 action_whenever h x action.Any t = refl
 action_whenever h x (action.In l) t = some_whenever h x t.there (listed l) t.listed t.inside
-action_whenever h x (action.Eq e) t = whenever entity_equal entities x e t
+action_whenever h x (action.Eq e) t = entities.whenever x e t
 
 true_only : (v : Value) → is_true v ≡ true → v ≡ boolean true
 true_only (boolean b) t = ap boolean t

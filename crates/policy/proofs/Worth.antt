@@ -9,13 +9,12 @@ use Rattle.policy.specs.declared.constraint.EntityReference.{EntityReference}
 use Rattle.policy.specs.declared.constraint.EntityReference.TheVariants.{EUID, Slot}
 use Rattle.policy.specs.declared.constraint.PrincipalOrResourceConstraint.{PrincipalOrResourceConstraint}
 use Rattle.policy.specs.declared.constraint.PrincipalOrResourceConstraint.TheVariants as scope
-use Rattle.policy.specs.declared.action.ActionConstraint.{ActionConstraint}
-use Rattle.policy.specs.declared.action.ActionConstraint.TheVariants as action
+use Rattle.policy.specs.declared.action.ActionIn.TheVariants as action
 use Rattle.policy.specs.declared.values.SlotEnv.{SlotEnv}
 use Rattle.policy.specs.declared.template.Template.{Template}
 use Rattle.policy.specs.declared.node.ConditionNode.{ConditionNode}
 use Rattle.policy.specs.declared.node.ConditionNode.TheVariants as node
-use Rattle.policy.specs.Scopes.{listed}
+use Rattle.policy.specs.Scopes.{ActionConstraint, listed}
 use Rattle.policy.specs.Equality.{entity_equal}
 use Rattle.policy.specs.Hierarchy.{Edge, is_in}
 use Rattle.policy.specs.Value.{Value, boolean, entity, set, error, slot_value, as_boolean, and_value, eq_value, in_some, entity_in, in_value, is_value}

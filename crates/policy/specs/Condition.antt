@@ -8,12 +8,11 @@ use Rattle.policy.specs.declared.constraint.EntityReference.{EntityReference}
 use Rattle.policy.specs.declared.constraint.EntityReference.TheVariants.{EUID, Slot}
 use Rattle.policy.specs.declared.constraint.PrincipalOrResourceConstraint.{PrincipalOrResourceConstraint}
 use Rattle.policy.specs.declared.constraint.PrincipalOrResourceConstraint.TheVariants as scope
-use Rattle.policy.specs.declared.action.ActionConstraint.{ActionConstraint}
-use Rattle.policy.specs.declared.action.ActionConstraint.TheVariants as action
+use Rattle.policy.specs.declared.action.ActionIn.TheVariants as action
 use Rattle.policy.specs.declared.template.Template.{Template}
 use Rattle.policy.specs.declared.node.ConditionNode.{ConditionNode}
 use Rattle.policy.specs.declared.node.ConditionNode.TheVariants as node
-use Rattle.policy.specs.Scopes.{listed}
+use Rattle.policy.specs.Scopes.{ActionConstraint, listed}
 
 -- How many operands a node takes.
 abbrev pub arity : ConditionNode → ℕ

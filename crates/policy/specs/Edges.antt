@@ -13,22 +13,25 @@ use Rattle.policy.specs.declared.constraint.EntityReference.TheVariants.{EUID, S
 use Rattle.policy.specs.declared.constraint.PrincipalOrResourceConstraint.{PrincipalOrResourceConstraint}
 use Rattle.policy.specs.declared.constraint.PrincipalOrResourceConstraint.TheVariants as scope
 use Rattle.policy.specs.declared.action.ActionList.{ActionList}
-use Rattle.policy.specs.declared.action.ActionConstraint.{ActionConstraint}
-use Rattle.policy.specs.declared.action.ActionConstraint.TheVariants as action
+use Rattle.policy.specs.declared.action.ActionIn.TheVariants as action
+use Rattle.policy.specs.declared.template.Template.{Template}
 use Rattle.policy.specs.declared.node.ConditionNode.{ConditionNode}
 use Rattle.policy.specs.declared.node.ConditionNode.TheVariants as node
+use Rattle.policy.specs.Scopes.{ActionConstraint}
 use Rattle.policy.specs.Slots.{slots_where, slot_equal}
 use Rattle.policy.specs.Condition.{condition_tree}
 use Rattle.policy.specs.Arity.{bindable}
 
 -- A book of one clause, which has a slot of neither kind and is no constant.
-abbrev one_clause : List (Clause ℕ)
+abbrev pub one_clause : List (Clause ℕ)
 one_clause = record { content = 0; slots = 0; constant = None } ∷ []
 
-abbrev someone : EntityUID
+-- An entity.
+abbrev pub someone : EntityUID
 someone = record { ty = 1; eid = 2 }
 
-abbrev eight : ActionList
+-- Eight actions.
+abbrev pub eight : ActionList
 eight = record {
   items = someone ∷ someone ∷ someone ∷ someone ∷ someone ∷ someone ∷ someone ∷ someone ∷ [];
   count = 8;
@@ -37,15 +40,18 @@ eight = record {
   padded = refl;
 }
 
+-- A template with these scopes and this clause, and no slots.
+abbrev pub slotless : PrincipalOrResourceConstraint → ActionConstraint → PrincipalOrResourceConstraint → Option ℕ → Template
+slotless principal act resource clause =
+    record { id = 0; effect = Permit; principal = principal; action = act; resource = resource; clause = clause; slots = slots_where (λ _. false) }
+
 -- The nodes of the condition of a template with these scopes and this clause.
-abbrev nodes : PrincipalOrResourceConstraint → ActionConstraint → PrincipalOrResourceConstraint → Option ℕ → List ConditionNode
-nodes principal act resource clause =
-    written (condition_tree one_clause (record
-    { id = 0; effect = Permit; principal = principal; action = act; resource = resource; clause = clause; slots = slots_where (λ _. false) }))
+abbrev pub nodes : PrincipalOrResourceConstraint → ActionConstraint → PrincipalOrResourceConstraint → Option ℕ → List ConditionNode
+nodes principal act resource clause = written (condition_tree one_clause (slotless principal act resource clause))
 
 -- The number and the values of a refusal.
-abbrev refusal_of : Result (Unit {0}) Refusal → Option (ℕ × List ℕ)
-refusal_of (Ok u) = None
+abbrev pub refusal_of : {X : Type 0} → Result X Refusal → Option (ℕ × List ℕ)
+refusal_of (Ok x) = None
 refusal_of (Err e) = Some (number e, values e)
 
 pub record Edges : Type 0 where

@@ -1,26 +1,23 @@
 -- When two templates are equal, and two policies.
-use Rattle.std.specs.Prelude.{ℕ, Bool, true, false, ◌&&◌, List, [], ◌∷◌, Some, None, Option, ◌==◌, nat_eq}
-use Rattle.names.specs.declared.entity.EntityUID.{EntityUID}
+use Rattle.std.specs.Prelude.{ℕ, Bool, true, false, ◌&&◌, Some, None, Option, ◌==◌, nat_eq}
+use Rattle.std.specs.Cmp.Lexicographic.{pointwise}
+pub use Rattle.names.specs.Entities.{entity_equal}
 use Rattle.policy.specs.declared.constraint.Effect.{Effect}
 use Rattle.policy.specs.declared.constraint.Effect.TheVariants.{Permit, Forbid}
 use Rattle.policy.specs.declared.constraint.EntityReference.{EntityReference}
 use Rattle.policy.specs.declared.constraint.EntityReference.TheVariants.{EUID, Slot}
 use Rattle.policy.specs.declared.constraint.PrincipalOrResourceConstraint.{PrincipalOrResourceConstraint}
-use Rattle.policy.specs.declared.action.ActionConstraint.{ActionConstraint}
-use Rattle.policy.specs.declared.action.ActionConstraint.TheVariants as action
+use Rattle.policy.specs.declared.action.ActionIn.TheVariants as action
 use Rattle.policy.specs.declared.values.SlotEnv.{SlotEnv}
 use Rattle.policy.specs.declared.template.Template.{Template}
 use Rattle.policy.specs.declared.bound.Policy.{Policy}
-use Rattle.policy.specs.Scopes.{kind, type_of, reference_of, listed}
+use Rattle.policy.specs.Scopes.{ActionConstraint, kind, type_of, reference_of, listed}
 
 abbrev pub effect_equal : Effect → Effect → Bool
 effect_equal Permit Permit = true
 effect_equal Permit Forbid = false
 effect_equal Forbid Permit = false
 effect_equal Forbid Forbid = true
-
-abbrev pub entity_equal : EntityUID → EntityUID → Bool
-entity_equal a b = a.ty == b.ty && a.eid == b.eid
 
 abbrev pub reference_equal : EntityReference → EntityReference → Bool
 reference_equal (EUID a) (EUID b) = entity_equal a b
@@ -40,19 +37,13 @@ scope_equal a b =
     (kind a == kind b)
     && (option_equal nat_eq (type_of a) (type_of b) && option_equal reference_equal (reference_of a) (reference_of b))
 
--- As many, and equal place by place.
-abbrev pub list_equal : {X : Type 0} → (X → X → Bool) → List X → List X → Bool
-list_equal same [] [] = true
-list_equal same [] (y ∷ ys) = false
-list_equal same (x ∷ xs) [] = false
-list_equal same (x ∷ xs) (y ∷ ys) = same x y && list_equal same xs ys
-
+-- Action lists are equal place by place.
 abbrev pub action_equal : ActionConstraint → ActionConstraint → Bool
 action_equal action.Any action.Any = true
 action_equal action.Any (action.In l) = false
 action_equal action.Any (action.Eq e) = false
 action_equal (action.In l) action.Any = false
-action_equal (action.In l) (action.In m) = list_equal entity_equal (listed l) (listed m)
+action_equal (action.In l) (action.In m) = pointwise entity_equal (listed l) (listed m)
 action_equal (action.In l) (action.Eq e) = false
 action_equal (action.Eq e) action.Any = false
 action_equal (action.Eq e) (action.In l) = false

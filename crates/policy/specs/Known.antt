@@ -1,9 +1,11 @@
 -- The names and the clause of a record, and the refusals 1 and 2 of those that the books lack.
 use Rattle.std.specs.Prelude.{ℕ, cond, List, [], ◌∷◌, ◌++◌, length, Some, None, Ok, Err, Option, Result, nat_lt}
 use Rattle.refusals.specs.declared.refusal.Refusal.{Refusal}
-use Rattle.refusals.specs.declared.refusal.Refusal.TheVariants.{UnknownName, UnknownClause}
+use Rattle.refusals.specs.declared.refusal.Refusal.TheVariants.{UnknownClause}
 use Rattle.names.specs.declared.entity.EntityUID.{EntityUID}
 use Rattle.clauses.specs.Book.{Clause}
+pub use Rattle.clauses.specs.Checks.{and_then, in_turn}
+use Rattle.clauses.specs.NameChecks.{name_check}
 use Rattle.policy.specs.declared.constraint.EntityReference.{EntityReference}
 use Rattle.policy.specs.declared.constraint.EntityReference.TheVariants.{EUID, Slot}
 use Rattle.policy.specs.declared.constraint.PrincipalOrResourceConstraint.{PrincipalOrResourceConstraint}
@@ -49,22 +51,9 @@ parts_names t link env = template_names t ++ (optional (λ n. n ∷ []) link ++ 
 abbrev pub policy_names : Policy → List ℕ
 policy_names p = parts_names p.template p.link p.values
 
--- Where the first test refuses, its refusal stands.
-abbrev pub and_then : {X : Type 0} → Result (Unit {0}) Refusal → Result X Refusal → Result X Refusal
-and_then (Ok u) r = r
-and_then (Err e) r = Err e
-
--- A test of each number in turn.
-abbrev pub in_turn : (ℕ → Result (Unit {0}) Refusal) → List ℕ → Result (Unit {0}) Refusal
-in_turn test [] = Ok tt
-in_turn test (n ∷ ns) = and_then (test n) (in_turn test ns)
-
--- Refusal 1 of a name that is not below the count.
-abbrev pub name_known : ℕ → ℕ → Result (Unit {0}) Refusal
-name_known count n = cond (nat_lt n count) (Ok tt) (Err (UnknownName n))
-
+-- Refusal 1 of the first name that is not below the count.
 abbrev pub names_known : ℕ → List ℕ → Result (Unit {0}) Refusal
-names_known count ns = in_turn (name_known count) ns
+names_known count ns = in_turn (name_check count) ns
 
 -- Refusal 2 of a clause that is not below the count.
 abbrev pub clause_known : {C : Type 0} → List (Clause C) → Option ℕ → Result (Unit {0}) Refusal

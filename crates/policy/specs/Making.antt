@@ -1,37 +1,35 @@
 -- Making a template from its parts.
-use Rattle.std.specs.Prelude.{◌≡◌, ℕ, Bool, cond, List, [], ◌∷◌, ◌++◌, length, Ok, Err, Decides, MatchBool, Option, Result, nat_lt, slice_index_or}
+use Rattle.std.specs.Prelude.{◌≡◌, ℕ, Bool, List, [], ◌∷◌, ◌++◌, length, Ok, Err, Decides, MatchBool, Option, Result, nat_lt}
 use Rattle.refusals.specs.declared.refusal.Refusal.{Refusal}
-use Rattle.refusals.specs.declared.refusal.Refusal.TheVariants.{TooManyActions, BadTypeName}
+use Rattle.refusals.specs.declared.refusal.Refusal.TheVariants.{TooManyActions}
 use Rattle.names.specs.declared.entity.EntityUID.{EntityUID}
 use Rattle.names.specs.declared.type_name.Scan.TheVariants.{Start}
 use Rattle.names.specs.Scan.{scanned, accepts}
 use Rattle.names.specs.TypeName.{TypeName}
 use Rattle.clauses.specs.Book.{Clause}
+use Rattle.clauses.specs.NameChecks.{type_check}
 use Rattle.policy.specs.declared.constraint.Effect.{Effect}
 use Rattle.policy.specs.declared.constraint.EntityReference.{EntityReference}
 use Rattle.policy.specs.declared.constraint.EntityReference.TheVariants.{EUID, Slot}
 use Rattle.policy.specs.declared.constraint.PrincipalOrResourceConstraint.{PrincipalOrResourceConstraint}
-use Rattle.policy.specs.declared.scope.ActionScope.{ActionScope}
-use Rattle.policy.specs.declared.scope.ActionScope.TheVariants as given
 use Rattle.policy.specs.declared.action.ActionList.{ActionList}
-use Rattle.policy.specs.declared.action.ActionConstraint.{ActionConstraint}
-use Rattle.policy.specs.declared.action.ActionConstraint.TheVariants as action
+use Rattle.policy.specs.declared.action.ActionIn.TheVariants as action
 use Rattle.policy.specs.declared.template.Template.{Template}
-use Rattle.policy.specs.Scopes.{type_of, reference_of, actions_of, listed}
+use Rattle.policy.specs.Scopes.{ActionConstraint, ActionScope, type_of, reference_of, actions_of, listed}
 use Rattle.policy.specs.Known.{and_then, in_turn, optional, template_known}
 use Rattle.policy.specs.Mentions.{condition_slots}
 
 -- The entities that were given for the action.
 abbrev pub given_actions : ActionScope → List EntityUID
-given_actions given.Any = []
-given_actions (given.In es) = es.now
-given_actions (given.Eq e) = e ∷ []
+given_actions action.Any = []
+given_actions (action.In es) = es.now
+given_actions (action.Eq e) = e ∷ []
 
 -- The action's scope is what was given.
 abbrev pub GivenAction : ActionScope → ActionConstraint → Type 0
-GivenAction given.Any a = a ≡ action.Any
-GivenAction (given.In es) a = (l : ActionList) × (a ≡ action.In l) × (listed l ≡ es.now)
-GivenAction (given.Eq e) a = a ≡ action.Eq e
+GivenAction action.Any a = a ≡ action.Any
+GivenAction (action.In es) a = (l : ActionList) × (a ≡ action.In l) × (listed l ≡ es.now)
+GivenAction (action.Eq e) a = a ≡ action.Eq e
 
 -- Refusal 6 above eight entities; else the action's scope.
 abbrev pub MakesAction : ActionScope → Result ActionConstraint Refusal → Type 0
@@ -64,12 +62,9 @@ type_name text = accepts (scanned Start text)
 abbrev pub TypeNamesDecided : Type 0
 TypeNamesDecided = (text : List ℕ) → Decides (type_name text) (TypeName text)
 
--- Refusal 5 of a name whose text is not a type name.
-abbrev pub type_kept : List (List ℕ) → ℕ → Result (Unit {0}) Refusal
-type_kept texts n = cond (type_name (slice_index_or texts n [])) (Ok tt) (Err (BadTypeName n))
-
+-- Refusal 5 of the first name whose text is not a type name.
 abbrev pub types_kept : List (List ℕ) → List ℕ → Result (Unit {0}) Refusal
-types_kept texts ns = in_turn (type_kept texts) ns
+types_kept texts ns = in_turn (type_check texts) ns
 
 -- A template is made of these parts, with the slots of its condition.
 pub record Made {C : Type 0} (cs : List (Clause C)) (id : ℕ) (effect : Effect) (principal : PrincipalOrResourceConstraint) (action : ActionScope)

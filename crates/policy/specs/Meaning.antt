@@ -6,11 +6,10 @@ use Rattle.policy.specs.declared.constraint.EntityReference.{EntityReference}
 use Rattle.policy.specs.declared.constraint.EntityReference.TheVariants.{EUID, Slot}
 use Rattle.policy.specs.declared.constraint.PrincipalOrResourceConstraint.{PrincipalOrResourceConstraint}
 use Rattle.policy.specs.declared.constraint.PrincipalOrResourceConstraint.TheVariants as scope
-use Rattle.policy.specs.declared.action.ActionConstraint.{ActionConstraint}
-use Rattle.policy.specs.declared.action.ActionConstraint.TheVariants as action
+use Rattle.policy.specs.declared.action.ActionIn.TheVariants as action
 use Rattle.policy.specs.declared.values.SlotEnv.{SlotEnv}
 use Rattle.policy.specs.declared.template.Template.{Template}
-use Rattle.policy.specs.Scopes.{listed}
+use Rattle.policy.specs.Scopes.{ActionConstraint, listed}
 use Rattle.policy.specs.Hierarchy.{Edge, In}
 use Rattle.policy.specs.Value.{Value, boolean, error}
 

@@ -1,12 +1,13 @@
 -- What scopes are made of.
 use Rattle.std.specs.Prelude.{ℕ, List, [], ◌∷◌, take, Some, None, Option}
+use Rattle.std.specs.Borrow.{Bor}
 use Rattle.names.specs.declared.entity.EntityUID.{EntityUID}
 use Rattle.policy.specs.declared.constraint.EntityReference.{EntityReference}
 use Rattle.policy.specs.declared.constraint.PrincipalOrResourceConstraint.{PrincipalOrResourceConstraint}
 use Rattle.policy.specs.declared.constraint.PrincipalOrResourceConstraint.TheVariants as scope
 use Rattle.policy.specs.declared.action.ActionList.{ActionList}
-use Rattle.policy.specs.declared.action.ActionConstraint.{ActionConstraint}
-use Rattle.policy.specs.declared.action.ActionConstraint.TheVariants as action
+use Rattle.policy.specs.declared.action.ActionIn.{ActionIn}
+use Rattle.policy.specs.declared.action.ActionIn.TheVariants as action
 
 -- Which of the five a scope is.
 abbrev pub kind : PrincipalOrResourceConstraint → ℕ
@@ -35,6 +36,13 @@ reference_of (scope.IsIn t r) = Some r
 -- The entities of an action list.
 abbrev pub listed : ActionList → List EntityUID
 listed l = take l.count l.items
+
+-- The scope of a template's action, and that of an action as it is given.
+abbrev pub ActionConstraint : Type 0
+ActionConstraint = ActionIn ActionList
+
+abbrev pub ActionScope : Type 0
+ActionScope = ActionIn (Bor (List EntityUID))
 
 -- The entities of the action's scope.
 abbrev pub actions_of : ActionConstraint → List EntityUID

@@ -4,7 +4,8 @@ ghost use Rattle.policy.specs.Padding.{blank};
 use names::entity::EntityUID;
 
 // At most eight entities. The places past the count are blank, so that equal lists are equal records.
-#[derive(Clone, Copy)]
+// An array and its count: templates are `Copy`, and an `ArrayVec` is not.
+#[derive(Clone, Copy, PartialEq, Eq, Debug)]
 pub struct ActionList {
     pub items: [EntityUID; 8],
     pub count: u8,
@@ -13,10 +14,13 @@ pub struct ActionList {
     ghost padded: { blank (drop count items) ≡ true },
 }
 
-// The scope of the action.
-#[derive(Clone, Copy)]
-pub enum ActionConstraint {
+// The scope of the action, where `L` is the list of `in`.
+#[derive(Clone, Copy, PartialEq, Eq, Debug, Drop)]
+pub enum ActionIn<L> {
     Any,
-    In(ActionList),
+    In(L),
     Eq(EntityUID),
 }
+
+// The scope of a template's action.
+pub type ActionConstraint = ActionIn<ActionList>;

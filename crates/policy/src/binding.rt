@@ -6,7 +6,6 @@ ghost use Rattle.policy.specs.Known.{and_then};
 
 use crate::bound::Policy;
 use crate::known::{known_clause, known_parts};
-use crate::slot_set::{minus, value_slots};
 use crate::template::Template;
 use crate::values::SlotEnv;
 use clauses::book::ClauseBook;
@@ -19,10 +18,10 @@ use refusals::slots::SlotSet;
 fn bindable(slots: SlotSet, values: SlotEnv) -> Result<(), Refusal>
     ensures { result ≡ bindable_of slots values }
 {
-    let bound = value_slots(values);
-    let unbound = minus(slots, bound);
-    let extra = minus(bound, slots);
-    if unbound.bits == 0 && extra.bits == 0 {
+    let bound = values.slots();
+    let unbound = slots.minus(bound);
+    let extra = bound.minus(slots);
+    if unbound.is_empty() && extra.is_empty() {
         Ok(())
     } else {
         Err(Refusal::ArityError(unbound, extra))
@@ -41,21 +40,21 @@ pub fn linked(template: &Template, link: NameNumber, values: SlotEnv) -> Result<
     })
 }
 
-fn tested_binding<B: ClauseBook>(
-    template: &Template,
-    link: Option<NameNumber>,
-    values: SlotEnv,
-    count: usize,
-    clauses: &B,
-) -> Result<(), Refusal>
-    ensures { result ≡ binding_answer count (B.ClauseBook.listed clauses.now) template.now link values }
-{
-    known_parts(count, template, link, values)?;
-    known_clause(clauses, template.clause)?;
-    bindable(template.slots, values)
-}
-
 impl Template {
+    fn tested_binding<B: ClauseBook>(
+        &self,
+        link: Option<NameNumber>,
+        values: SlotEnv,
+        count: usize,
+        clauses: &B,
+    ) -> Result<(), Refusal>
+        ensures { result ≡ binding_answer count (B.ClauseBook.listed clauses.now) self.now link values }
+    {
+        known_parts(count, self, link, values)?;
+        known_clause(clauses, self.clause)?;
+        bindable(self.slots, values)
+    }
+
     // Whether the values are for exactly the template's slots.
     pub fn check_binding<B: ClauseBook>(
         &self,
@@ -66,7 +65,7 @@ impl Template {
         ensures answer { result ≡ binding_answer (length (texts names.now)) (B.ClauseBook.listed clauses.now) self.now None values }
         ensures exact { AcceptsExact self.now.slots values }
     {
-        tested_binding(self, None, values, names.count(), clauses)
+        self.tested_binding(None, values, names.count(), clauses)
     }
 
     // The link of the template under a new id, with values for exactly its slots.
@@ -79,11 +78,7 @@ impl Template {
     ) -> Result<Policy, Refusal>
         ensures { parts_of result ≡ link_answer (length (texts names.now)) (B.ClauseBook.listed clauses.now) self.now new_id values }
     {
-        tested_binding(self, Some(new_id), values, names.count(), clauses)?;
-        Ok(Policy {
-            template: *self,
-            link: Some(new_id),
-            values,
-        })
+        self.tested_binding(Some(new_id), values, names.count(), clauses)?;
+        linked(self, new_id, values)
     }
 }

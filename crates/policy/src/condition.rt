@@ -1,4 +1,5 @@
 ghost use Rattle.std.specs.Prelude.{◌≡◌, ℕ, ◌+◌, ◌<◌, ◌≤◌, List, [], ◌∷◌, ◌++◌, map, length};
+ghost use Rattle.arrayvec.specs.ArrayVec.{array_vec_len};
 ghost use Rattle.names.specs.Book.{texts};
 ghost use Rattle.clauses.specs.Tree.{written, One};
 ghost use Rattle.policy.specs.Calls.{condition_answer};
@@ -6,7 +7,7 @@ ghost use Rattle.policy.specs.Evaluation.{Means};
 ghost use Rattle.policy.specs.Hierarchy.{InDecided};
 ghost use Rattle.policy.specs.Answer.{fitted, buffer_after};
 ghost use Rattle.policy.specs.Condition.{arity, reference_node, scope_tree, action_tree, clause_node as node_of_clause, condition_tree};
-ghost use Rattle.policy.specs.Nodes.{nodes_of, Wrote};
+ghost use Rattle.policy.specs.Nodes.{Wrote};
 ghost use Rattle.policy.specs.declared.node.ConditionNode.TheVariants.{Entity as Named};
 
 use crate::action::ActionConstraint;
@@ -14,6 +15,7 @@ use crate::constraint::{EntityReference, PrincipalOrResourceConstraint};
 use crate::known::known_template;
 use crate::node::ConditionNode;
 use crate::nodes::NodeList;
+use crate::nodes::writing::{and, extend};
 use crate::template::Template;
 use clauses::book::ClauseBook;
 use names::entity::EntityUID;
@@ -37,38 +39,39 @@ fn write_scope(
     slot: ConditionNode,
     s: PrincipalOrResourceConstraint,
 )
-    requires { list.old.count + 6 ≤ 27 }
+    requires { array_vec_len list.old + 6 ≤ 27 }
     ensures { Wrote list.old list.new (written (scope_tree variable slot s)) 6 }
 {
     match s {
         PrincipalOrResourceConstraint::Any => list.push(ConditionNode::Bool(true)),
-        PrincipalOrResourceConstraint::In(r) => list.extend(&[
-            variable,
-            reference(slot, r),
-            ConditionNode::In,
-        ]),
-        PrincipalOrResourceConstraint::Eq(r) => list.extend(&[
-            variable,
-            reference(slot, r),
-            ConditionNode::Eq,
-        ]),
-        PrincipalOrResourceConstraint::Is(t) => list.extend(&[variable, ConditionNode::Is(t)]),
+        PrincipalOrResourceConstraint::In(r) => extend(
+            list,
+            &[variable, reference(slot, r), ConditionNode::In],
+        ),
+        PrincipalOrResourceConstraint::Eq(r) => extend(
+            list,
+            &[variable, reference(slot, r), ConditionNode::Eq],
+        ),
+        PrincipalOrResourceConstraint::Is(t) => extend(list, &[variable, ConditionNode::Is(t)]),
         PrincipalOrResourceConstraint::IsIn(t, r) => {
             let r = reference(slot, r);
-            list.extend(&[
-                variable,
-                ConditionNode::Is(t),
-                variable,
-                r,
-                ConditionNode::In,
-                ConditionNode::And,
-            ]);
+            extend(
+                list,
+                &[
+                    variable,
+                    ConditionNode::Is(t),
+                    variable,
+                    r,
+                    ConditionNode::In,
+                    ConditionNode::And,
+                ],
+            );
         }
     }
 }
 
 fn write_entities(list: &mut NodeList, entities: &[EntityUID])
-    requires { list.old.count + length entities.now ≤ 27 }
+    requires { array_vec_len list.old + length entities.now ≤ 27 }
     ensures { Wrote list.old list.new (map Named entities.now) (length entities.now) }
 {
     for e in entities {
@@ -77,7 +80,7 @@ fn write_entities(list: &mut NodeList, entities: &[EntityUID])
 }
 
 fn write_action(list: &mut NodeList, action: &ActionConstraint)
-    requires { list.old.count + 11 ≤ 27 }
+    requires { array_vec_len list.old + 11 ≤ 27 }
     ensures { Wrote list.old list.new (written (action_tree action.now)) 11 }
 {
     match action {
@@ -85,13 +88,19 @@ fn write_action(list: &mut NodeList, action: &ActionConstraint)
         ActionConstraint::In(actions) => {
             list.push(ConditionNode::Action);
             write_entities(list, actions.as_slice());
-            list.extend(&[ConditionNode::Set(actions.count), ConditionNode::In]);
+            extend(
+                list,
+                &[ConditionNode::Set(actions.count), ConditionNode::In],
+            );
         }
-        ActionConstraint::Eq(e) => list.extend(&[
-            ConditionNode::Action,
-            ConditionNode::Entity(*e),
-            ConditionNode::Eq,
-        ]),
+        ActionConstraint::Eq(e) => extend(
+            list,
+            &[
+                ConditionNode::Action,
+                ConditionNode::Entity(*e),
+                ConditionNode::Eq,
+            ],
+        ),
     }
 }
 
@@ -101,16 +110,15 @@ fn clause_node<B: ClauseBook>(clauses: &B, clause: Option<u16>) -> ConditionNode
 {
     match clause {
         None => ConditionNode::Bool(true),
-        Some(n) => match clauses.constant(n) {
-            Some(b) => ConditionNode::Bool(b),
-            None => ConditionNode::Clause(n),
-        },
+        Some(n) => clauses
+            .constant(n)
+            .map_or(ConditionNode::Clause(n), |b| ConditionNode::Bool(b)),
     }
 }
 
 // The nodes of a template's condition.
 fn written_condition<B: ClauseBook>(t: &Template, clauses: &B) -> NodeList
-    ensures { nodes_of result ≡ written (condition_tree (B.ClauseBook.listed clauses.now) t.now) }
+    ensures { result.items ≡ written (condition_tree (B.ClauseBook.listed clauses.now) t.now) }
 {
     let mut list = NodeList::new();
     write_scope(
@@ -127,9 +135,9 @@ fn written_condition<B: ClauseBook>(t: &Template, clauses: &B) -> NodeList
         t.resource,
     );
     list.push(clause_node(clauses, t.clause));
-    list.and();
-    list.and();
-    list.and();
+    and(&mut list);
+    and(&mut list);
+    and(&mut list);
     list
 }
 

@@ -1,48 +1,38 @@
-ghost use Rattle.std.specs.Prelude.{◌≡◌, Bool, ◌&&◌, Some as Referred};
+ghost use Rattle.std.specs.Prelude.{◌≡◌, Bool, ◌&&◌};
 ghost use Rattle.clauses.specs.Book.{at, slots_of};
-ghost use Rattle.policy.specs.Filling.{slotted, is_slot as slot_reference};
+ghost use Rattle.policy.specs.Filling.{slotted};
 ghost use Rattle.policy.specs.Slots.{slots_where, slot_equal};
 ghost use Rattle.policy.specs.Mentions.{clause_has, part_has, condition_slots as slots_in_condition};
 
 use crate::constraint::{EntityReference, PrincipalOrResourceConstraint};
-use crate::slot_set::{empty, single, union};
 use crate::template::Template;
 use clauses::book::ClauseBook;
 use refusals::slots::{SlotId, SlotSet};
-
-fn is_slot(r: EntityReference) -> bool
-    ensures { result ≡ slot_reference (Referred r) }
-{
-    match r {
-        EntityReference::EUID(_) => false,
-        EntityReference::Slot => true,
-    }
-}
 
 // Whether the scope refers to its slot.
 fn has_slot(s: PrincipalOrResourceConstraint) -> bool
     ensures { result ≡ slotted s }
 {
-    match s {
-        PrincipalOrResourceConstraint::Any | PrincipalOrResourceConstraint::Is(_) => false,
-        PrincipalOrResourceConstraint::In(r)
-        | PrincipalOrResourceConstraint::Eq(r)
-        | PrincipalOrResourceConstraint::IsIn(_, r) => is_slot(r),
-    }
+    matches!(s.reference(), Some(EntityReference::Slot))
 }
 
 // The slot of a scope, if it refers to it.
 fn scope_slots(s: PrincipalOrResourceConstraint, slot: SlotId) -> SlotSet
     ensures { result ≡ slots_where (λ other. slotted s && slot_equal other slot) }
 {
-    if has_slot(s) { single(slot) } else { empty() }
+    if has_slot(s) {
+        SlotSet::single(slot)
+    } else {
+        SlotSet::empty()
+    }
 }
 
-fn clause_slots<B: ClauseBook>(clauses: &B, clause: Option<u16>) -> SlotSet
+// The slots of a clause; none where there is no clause.
+pub fn clause_slots<B: ClauseBook>(clauses: &B, clause: Option<u16>) -> SlotSet
     ensures { result ≡ slots_where (λ slot. clause_has (B.ClauseBook.listed clauses.now) clause slot) }
 {
     match clause {
-        None => empty(),
+        None => SlotSet::empty(),
         Some(n) => clauses.slots(n),
     }
 }
@@ -56,11 +46,9 @@ pub fn slots_of<B: ClauseBook>(
 ) -> SlotSet
     ensures { result ≡ slots_where (part_has (B.ClauseBook.listed clauses.now) principal resource clause) }
 {
-    let scopes = union(
-        scope_slots(principal, SlotId::Principal),
-        scope_slots(resource, SlotId::Resource),
-    );
-    union(scopes, clause_slots(clauses, clause))
+    scope_slots(principal, SlotId::Principal)
+        .union(scope_slots(resource, SlotId::Resource))
+        .union(clause_slots(clauses, clause))
 }
 
 // The slots of a template's condition.

@@ -9,6 +9,7 @@ pub enum Effect {
 }
 
 // What a scope refers to: an entity, or the slot of that position.
+// An enum of its own: as an `Option` it would not say that `None` is the slot.
 #[derive(Clone, Copy, PartialEq, Eq, Debug)]
 pub enum EntityReference {
     EUID(EntityUID),

@@ -76,17 +76,14 @@ impl PrincipalOrResourceConstraint {
 fn filled_template<B: ClauseBook>(p: &Policy, clauses: &B) -> Template
     ensures { result ≡ filled (B.ClauseBook.listed clauses.now) p.now }
 {
-    let t = p.template;
-    let principal = filled_scope(t.principal, p.values.principal);
-    let resource = filled_scope(t.resource, p.values.resource);
+    let principal = filled_scope(p.template.principal, p.values.principal);
+    let resource = filled_scope(p.template.resource, p.values.resource);
+    let slots = slots_of(principal, resource, p.template.clause, clauses);
     Template {
-        id: t.id,
-        effect: t.effect,
         principal,
-        action: t.action,
         resource,
-        clause: t.clause,
-        slots: slots_of(principal, resource, t.clause, clauses),
+        slots,
+        ..p.template
     }
 }
 

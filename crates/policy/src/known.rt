@@ -1,27 +1,15 @@
 ghost use Rattle.std.specs.Prelude.{◌≡◌, ℕ, [], ◌∷◌, ◌++◌};
 ghost use Rattle.policy.specs.Known.{optional, entity_names, entities_names, reference_names, scope_names, template_names, values_names, parts_names, policy_names, names_known, clause_known, template_known, policy_known};
-ghost use Rattle.policy.specs.Scopes.{actions_of};
 
-use crate::action::ActionConstraint;
 use crate::bound::Policy;
 use crate::constraint::{EntityReference, PrincipalOrResourceConstraint};
 use crate::template::Template;
 use crate::values::SlotEnv;
 use clauses::book::ClauseBook;
+pub use clauses::naming::known_name;
 use names::entity::EntityUID;
 use refusals::NameNumber;
 use refusals::refusal::Refusal;
-
-// A name is known when it is below the count of the name book.
-pub fn known_name(count: usize, name: NameNumber) -> Result<(), Refusal>
-    ensures { result ≡ names_known count (name ∷ []) }
-{
-    if (name as usize) < count {
-        Ok(())
-    } else {
-        Err(Refusal::UnknownName(name))
-    }
-}
 
 fn known_entity(count: usize, e: EntityUID) -> Result<(), Refusal>
     ensures { result ≡ names_known count (entity_names e) }
@@ -42,16 +30,10 @@ fn known_reference(count: usize, r: EntityReference) -> Result<(), Refusal>
 pub fn known_scope(count: usize, s: PrincipalOrResourceConstraint) -> Result<(), Refusal>
     ensures { result ≡ names_known count (scope_names s) }
 {
-    match s {
-        PrincipalOrResourceConstraint::Any => Ok(()),
-        PrincipalOrResourceConstraint::In(r) | PrincipalOrResourceConstraint::Eq(r) =>
-            known_reference(count, r),
-        PrincipalOrResourceConstraint::Is(t) => known_name(count, t),
-        PrincipalOrResourceConstraint::IsIn(t, r) => {
-            known_name(count, t)?;
-            known_reference(count, r)
-        }
+    if let Some(t) = s.ty() {
+        known_name(count, t)?;
     }
+    s.reference().map_or(Ok(()), |r| known_reference(count, r))
 }
 
 fn known_entities(count: usize, list: &[EntityUID]) -> Result<(), Refusal>
@@ -63,33 +45,20 @@ fn known_entities(count: usize, list: &[EntityUID]) -> Result<(), Refusal>
     Ok(())
 }
 
-fn known_action(count: usize, a: &ActionConstraint) -> Result<(), Refusal>
-    ensures { result ≡ names_known count (entities_names (actions_of a.now)) }
-{
-    match a {
-        ActionConstraint::Any => Ok(()),
-        ActionConstraint::In(list) => known_entities(count, list.as_slice()),
-        ActionConstraint::Eq(e) => known_entity(count, *e),
-    }
-}
-
 // The names of a template in record order.
 pub fn known_names(count: usize, t: &Template) -> Result<(), Refusal>
     ensures { result ≡ names_known count (template_names t.now) }
 {
     known_name(count, t.id)?;
     known_scope(count, t.principal)?;
-    known_action(count, &t.action)?;
+    known_entities(count, t.action.as_slice())?;
     known_scope(count, t.resource)
 }
 
 pub fn known_value(count: usize, value: Option<EntityUID>) -> Result<(), Refusal>
     ensures { result ≡ names_known count (optional entity_names value) }
 {
-    match value {
-        None => Ok(()),
-        Some(e) => known_entity(count, e),
-    }
+    value.map_or(Ok(()), |e| known_entity(count, e))
 }
 
 pub fn known_values(count: usize, values: SlotEnv) -> Result<(), Refusal>
@@ -102,10 +71,7 @@ pub fn known_values(count: usize, values: SlotEnv) -> Result<(), Refusal>
 fn known_link(count: usize, link: Option<NameNumber>) -> Result<(), Refusal>
     ensures { result ≡ names_known count (optional (λ n. n ∷ []) link) }
 {
-    match link {
-        None => Ok(()),
-        Some(id) => known_name(count, id),
-    }
+    link.map_or(Ok(()), |id| known_name(count, id))
 }
 
 // The names of a template, of a link id if there is one, and of values.
@@ -134,13 +100,8 @@ pub fn known_clause<B: ClauseBook>(clauses: &B, clause: Option<u16>) -> Result<(
 {
     match clause {
         None => Ok(()),
-        Some(n) => {
-            if (n as u32) < clauses.count() {
-                Ok(())
-            } else {
-                Err(Refusal::UnknownClause(n))
-            }
-        }
+        Some(n) if (n as u32) < clauses.count() => Ok(()),
+        Some(n) => Err(Refusal::UnknownClause(n)),
     }
 }
 

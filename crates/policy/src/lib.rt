@@ -15,6 +15,7 @@ pub mod list;
 pub mod making;
 pub mod node;
 pub(crate) mod nodes;
+pub(crate) mod parts;
 pub mod scope;
 pub mod slot_set;
 pub mod statics;

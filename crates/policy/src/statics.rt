@@ -5,25 +5,21 @@ ghost use Rattle.policy.specs.Static.{slotless as slotless_of, body_of, static_a
 use crate::bound::Policy;
 use crate::fixed::StaticPolicy;
 use crate::known::known_template;
-use crate::slot_set::has;
 use crate::template::Template;
 use crate::values::SlotEnv;
 use clauses::book::ClauseBook;
 use names::kept::NameBook;
 use refusals::refusal::Refusal;
-use refusals::slots::{SlotId, SlotSet};
+use refusals::slots::SlotSet;
 
 // Refusal 8 of a slot, the principal's first.
 fn slotless(slots: SlotSet) -> Result<(), Refusal>
     ensures { result ≡ slotless_of slots }
 {
-    if has(SlotId::Principal, slots) {
-        return Err(Refusal::UnexpectedSlot(SlotId::Principal));
+    match slots.first() {
+        Some(slot) => Err(Refusal::UnexpectedSlot(slot)),
+        None => Ok(()),
     }
-    if has(SlotId::Resource, slots) {
-        return Err(Refusal::UnexpectedSlot(SlotId::Resource));
-    }
-    Ok(())
 }
 
 impl StaticPolicy {
@@ -54,10 +50,7 @@ impl Template {
         let policy = Policy {
             template: p.body,
             link: None,
-            values: SlotEnv {
-                principal: None,
-                resource: None,
-            },
+            values: SlotEnv::default(),
         };
         Ok((p.body, policy))
     }

@@ -2,6 +2,7 @@
 use Rattle.std.proofs.Common.{◌≡◌, ℕ, true, false, cond, not, ◌&&◌, eqb, [], ◌∷◌, ◌++◌, length, is_some, Some, None, Option, sym, refl, ap, ◌∙◌}
 use Rattle.std.proofs.lemmas.List.{append-nil}
 use Rattle.std.proofs.lemmas.Bool.{eq-eqb, and_from}
+use Rattle.std.specs.Bool.{then_some}
 use Rattle.policy.specs.Binding.{value_slots}
 use Rattle.policy.specs.Arity.{Parts}
 use Rattle.policy.specs.declared.template.Template.{Template}
@@ -95,7 +96,7 @@ pub static_adds : (m : Maps) (t : Template) (r : PolicyRow) → Own t r → Soun
 static_adds m t r o s a b =
     adds m (with_policy r (with_template t m)) t.id (policy record { template = t; link = None; values = r.values }) (Some t) (Some r) (Some (member r)) (member r ∷ []) a b
     (static_added m t r o s a b) refl
-    (ap (λ (u : Option Template). policy (parts (present u) (link_of r))) (own_template m t r o a) ∙ ap (λ b. policy (parts t (cond b (Some r.id) None))) o.static)
+    (ap (λ (u : Option Template). policy (parts (present u) (link_of r))) (own_template m t r o a) ∙ ap (λ b. policy (parts t (then_some b r.id))) o.static)
   where
     parts : Template → Option ℕ → Parts
     parts u l = record { template = u; link = l; values = r.values }
@@ -126,7 +127,7 @@ pub link_adds : (m : Maps) (r : PolicyRow) (t : Template) → Sound m → templa
     → Adds m (with_policy r m) r.id (policy record { template = t; link = Some r.id; values = r.values }) (member r ∷ [])
 link_adds m r t s a b l e =
     adds m (with_policy r m) r.id (policy record { template = t; link = Some r.id; values = r.values }) None (Some r) (Some (member r)) (member r ∷ []) a b (link_added m r s a b) refl
-    (ap (λ (o : Option Template). policy (parts (present o) (link_of r))) e ∙ ap (λ b. policy (parts t (cond b (Some r.id) None))) l)
+    (ap (λ (o : Option Template). policy (parts (present o) (link_of r))) e ∙ ap (λ b. policy (parts t (then_some b r.id))) l)
   where
     parts : Template → Option ℕ → Parts
     parts u o = record { template = u; link = o; values = r.values }

@@ -34,7 +34,7 @@ named_other before after id t r x u k n =
     go f None e = refl
     go f (Some q) e = ap Some (whole_same before after q (same_template before after id t r x u k q f e))
 
-times-kept : {X : Type 0} (key : X → ℕ) (k : ℕ) (p : X → Bool) (xs : List X) → times key k (filter p xs) ≤ times key k xs
+pub times-kept : {X : Type 0} (key : X → ℕ) (k : ℕ) (p : X → Bool) (xs : List X) → times key k (filter p xs) ≤ times key k xs
 times-kept key k p [] = omega arith
 times-kept key k p (y ∷ xs) = go (times-kept key k p xs) (p y)
   where

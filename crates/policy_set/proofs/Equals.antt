@@ -1,17 +1,15 @@
 -- Equality of templates and of policies, field by field.
-use Rattle.std.proofs.Common.{◌≡◌, ℕ, Bool, true, false, cond, eqb, Some, None, sym, refl, ap, ◌∙◌}
+use Rattle.std.proofs.Common.{◌≡◌, ℕ, Bool, true, false, eqb, Some, None, sym, ap, ◌∙◌}
 use Rattle.std.proofs.lemmas.Bool.{eqb-true, eq-eqb, and_parts, and_from}
-use Rattle.policy.specs.declared.constraint.Effect.{Effect}
-use Rattle.policy.specs.declared.constraint.Effect.TheVariants.{Permit, Forbid}
+use Rattle.std.specs.Bool.{then_some}
 use Rattle.policy.specs.declared.template.Template.{Template}
 use Rattle.policy.specs.Equality.{effect_equal, scope_equal, scopes_equal, action_equal, option_equal, template_equal, values_equal}
-use Rattle.policy.proofs.Deciding.{numbers, options, scopes, actions, environments, whenever}
+use Rattle.policy.proofs.Deciding.{numbers, effects, options, scopes, actions, environments}
 use Rattle.policy.specs.Arity.{Parts}
 use Rattle.policy_set.specs.declared.rows.PolicyRow.{PolicyRow}
 use Rattle.policy_set.specs.Maps.{changed, link_of}
 use Rattle.policy_set.specs.Merge.{parts_equal, renamed_template, renamed_policy}
 use Rattle.policy_set.proofs.Lookups.{no_some}
-use Rattle.policy_set.proofs.Sounds.{no_true}
 
 pub record SameTemplate (same : ℕ → ℕ → Bool) (s t : Template) : Type 0 where
   pub id : s.id ≡ t.id
@@ -27,16 +25,6 @@ pub record SamePolicy (same : ℕ → ℕ → Bool) (p q : Parts) : Type 0 where
   pub link : p.link ≡ q.link
   pub values : p.values ≡ q.values
 
-effect_only : (a b : Effect) → effect_equal a b ≡ true → a ≡ b
-effect_only Permit Permit h = refl
-effect_only Permit Forbid h = no_true h
-effect_only Forbid Permit h = no_true h
-effect_only Forbid Forbid h = refl
-
-effect_whenever : (a b : Effect) → a ≡ b → effect_equal a b ≡ true
-effect_whenever Permit b e = ap (effect_equal Permit) (sym e)
-effect_whenever Forbid b e = ap (effect_equal Forbid) (sym e)
-
 module _ (same : ℕ → ℕ → Bool) where
   pub same_template : (s t : Template) → template_equal same s t ≡ true → SameTemplate same s t
   same_template s t h =
@@ -48,7 +36,7 @@ module _ (same : ℕ → ℕ → Bool) where
       let y = and_parts (action_equal s.action t.action) (scope_equal s.resource t.resource) x.1 in
       record {
         id = eqb-true s.id t.id p.0;
-        effect = effect_only s.effect t.effect q.0;
+        effect = effects.only s.effect t.effect q.0;
         principal = scopes.only s.principal t.principal x.0;
         action = actions.only s.action t.action y.0;
         resource = scopes.only s.resource t.resource y.1;
@@ -59,12 +47,12 @@ module _ (same : ℕ → ℕ → Bool) where
   pub is_template_equal : (s t : Template) → SameTemplate same s t → template_equal same s t ≡ true
   is_template_equal s t e =
       and_from (eqb s.id t.id) _ (eq-eqb s.id t.id e.id)
-      (and_from (effect_equal s.effect t.effect) _ (effect_whenever s.effect t.effect e.effect)
+      (and_from (effect_equal s.effect t.effect) _ (effects.whenever s.effect t.effect e.effect)
       (and_from (scopes_equal s t) _
-      (and_from (scope_equal s.principal t.principal) _ (whenever scope_equal scopes s.principal t.principal e.principal)
+      (and_from (scope_equal s.principal t.principal) _ (scopes.whenever s.principal t.principal e.principal)
       (and_from (action_equal s.action t.action) (scope_equal s.resource t.resource)
-      (whenever action_equal actions s.action t.action e.action)
-      (whenever scope_equal scopes s.resource t.resource e.resource)))
+      (actions.whenever s.action t.action e.action)
+      (scopes.whenever s.resource t.resource e.resource)))
       (and_from (option_equal same s.clause t.clause) (eqb s.slots.bits t.slots.bits) e.clause
       (eq-eqb s.slots.bits t.slots.bits e.slots))))
 
@@ -82,8 +70,8 @@ module _ (same : ℕ → ℕ → Bool) where
   is_parts_equal p q e =
       and_from (template_equal same p.template q.template) _ (is_template_equal p.template q.template e.template)
       (and_from (option_equal eqb p.link q.link) (values_equal p.values q.values)
-      (whenever (option_equal eqb) (options eqb numbers) p.link q.link e.link)
-      (whenever values_equal environments p.values q.values e.values))
+      ((options eqb numbers).whenever p.link q.link e.link)
+      (environments.whenever p.values q.values e.values))
 
   -- an equal of a template keeps its ids under a renaming that keeps the template's
   pub same_renamed : (f : ℕ → ℕ) (s t : Template) → f t.id ≡ t.id → SameTemplate same s t → SameTemplate same s (renamed_template f t)
@@ -115,10 +103,10 @@ module _ (same : ℕ → ℕ → Bool) where
 
 -- a link has its id as link id, and a static policy none
 pub link_some : (r : PolicyRow) → r.link ≡ true → link_of r ≡ Some r.id
-link_some r e = ap (λ b. cond b (Some r.id) None) e
+link_some r e = ap (λ b. then_some b r.id) e
 
 pub link_none : (r : PolicyRow) → r.link ≡ false → link_of r ≡ None
-link_none r e = ap (λ b. cond b (Some r.id) None) e
+link_none r e = ap (λ b. then_some b r.id) e
 
 -- equal link ids are both there or both absent
 pub linked_both : {R : Type 0} (q r : PolicyRow) → link_of q ≡ link_of r → q.link ≡ true → r.link ≡ false → R

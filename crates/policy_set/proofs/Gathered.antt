@@ -1,5 +1,6 @@
 -- The four passes gather the ids that name unequal things.
 use Rattle.std.proofs.Common.{◌≡◌, ℕ, ◌+◌, Bool, true, false, cond, not, ◌&&◌, ◌||◌, eqb, List, [], ◌∷◌, ◌++◌, is_some, Some, None, Option, sym, refl, ap, ◌∙◌, subst, arith}
+use Rattle.std.proofs.Math.Bool.{or-false, or-true, and-false, or_assoc}
 use Rattle.std.proofs.lemmas.Bool.{eqb-true, eq-eqb, ne_eqb}
 use Rattle.policy.specs.declared.template.Template.{Template}
 use Rattle.policy.specs.Equality.{template_equal}
@@ -8,7 +9,8 @@ use Rattle.policy_set.specs.Tables.{one_if, lookup, times, Once}
 use Rattle.policy_set.specs.Rows.{template_id, policy_id}
 use Rattle.policy_set.specs.Maps.{Maps, template_at, row_at, changed, passes, present, whole, in_force, thing}
 use Rattle.policy_set.specs.Sound.{Sound, has_slots}
-use Rattle.policy_set.specs.Merge.{parts_equal, things_equal, unequal, unequal_template, unequal_policy, template_on_policy, link_on_template, among, noted, gather, gathered}
+use Rattle.policy_set.specs.Answers.{other_template}
+use Rattle.policy_set.specs.Merge.{parts_equal, things_equal, unequal, unequal_policy, template_on_policy, link_on_template, among, noted, gather, gathered}
 use Rattle.policy_set.specs.MergeLaw.{clash}
 use Rattle.policy_set.proofs.Lookups.{lookup_key, once_tail, once_head, times_push}
 use Rattle.policy_set.proofs.Sounds.{no_true}
@@ -16,22 +18,6 @@ use Rattle.policy_set.proofs.Equals.{SameTemplate, same_template, is_template_eq
 
 abbrev pub itself : ℕ → ℕ
 itself k = k
-
-pub or_no : (b : Bool) → (b || false) ≡ b
-or_no true = refl
-or_no false = refl
-
-or_yes : (b : Bool) → (b || true) ≡ true
-or_yes true = refl
-or_yes false = refl
-
-and_no : (b : Bool) → (b && false) ≡ false
-and_no true = refl
-and_no false = refl
-
-or_assoc : (a b c : Bool) → ((a || b) || c) ≡ (a || (b || c))
-or_assoc true b c = refl
-or_assoc false b c = refl
 
 unequal_none : {X : Type 0} (equal : X → X → Bool) (o : Option X) → unequal equal o None ≡ false
 unequal_none equal None = refl
@@ -56,7 +42,7 @@ among-times k (x ∷ xs) b e = go (among-times k xs) (eqb x k) b e
 pub gather-times : {X : Type 0} (key : X → ℕ) (test : X → Bool) (before : ℕ → Bool) (ids : List ℕ) (xs : List X) → Once key xs
     → ((k : ℕ) → times itself k ids ≡ one_if (before k))
     → (k : ℕ) → times itself k (gather key test ids xs) ≡ one_if (before k || passes test (lookup key k xs))
-gather-times key test before ids [] g h k = rw or_no (h k)
+gather-times key test before ids [] g h k = rw or-false (h k)
 gather-times {X} key test before ids (x ∷ xs) g h k =
     gather-times key test (λ j. before j || (test x && eqb (key x) j)) (noted (test x) (key x) ids) xs (once_tail key x xs g)
     (λ j. step j (test x) (among (key x) ids) refl) k
@@ -68,7 +54,7 @@ gather-times {X} key test before ids (x ∷ xs) g h k =
         let s2 : before j ≡ false = subst (λ i. before i ≡ false) (eqb-true _ _ p) s in
         let z : times itself j ids ≡ one_if false = rw s2 at (h j) in
         rw s2 (omega (arith, z))
-    pushed j e false p = rw or_no (omega (arith, h j))
+    pushed j e false p = rw or-false (omega (arith, h j))
 
     there : (j : ℕ) → among (key x) ids ≡ true → (c : Bool) → eqb (key x) j ≡ c → times itself j ids ≡ one_if (before j || c)
     there j e true p =
@@ -76,16 +62,16 @@ gather-times {X} key test before ids (x ∷ xs) g h k =
         let s2 : before j ≡ true = subst (λ i. before i ≡ true) (eqb-true _ _ p) s in
         let z : times itself j ids ≡ one_if true = rw s2 at (h j) in
         rw s2 (omega (arith, z))
-    there j e false p = rw or_no (h j)
+    there j e false p = rw or-false (h j)
 
     step : (j : ℕ) (t s : Bool) → among (key x) ids ≡ s → times itself j (cond (t && not s) (ids ++ key x ∷ []) ids) ≡ one_if (before j || (t && eqb (key x) j))
-    step j false s e = rw or_no (h j)
+    step j false s e = rw or-false (h j)
     step j true true e = there j e (eqb (key x) j) refl
     step j true false e = times_push itself j ids (key x) ∙ pushed j e (eqb (key x) j) refl
 
     last : (t c : Bool) → test x ≡ t → eqb (key x) k ≡ c
         → ((before k || (t && c)) || passes test (lookup key k xs)) ≡ (before k || passes test (cond c (Some x) (lookup key k xs)))
-    last t true e p = let n : lookup key k xs ≡ None = once_head key x xs k g p in rw (n, or_no, e) (yes_all t)
+    last t true e p = let n : lookup key k xs ≡ None = once_head key x xs k g p in rw (n, or-false, e) (yes_all t)
       where
         yes_all : (d : Bool) → (before k || (d && true)) ≡ (before k || d)
         yes_all true = refl
@@ -97,7 +83,7 @@ gather-times {X} key test before ids (x ∷ xs) g h k =
         no_all false = refl
 
 two_no : (x z w : Bool) → z ≡ true → w ≡ false → ((x || (not z && true)) || (w && true)) ≡ x
-two_no x z w p q = simp (p, q, or_no)
+two_no x z w p q = simp (p, q, or-false)
 
 module _ (same : ℕ → ℕ → Bool) (live incoming : Maps) (sl : Sound live) (si : Sound incoming) (k : ℕ) where
   -- the four tests of what stands under one id
@@ -114,11 +100,11 @@ module _ (same : ℕ → ℕ → Bool) (live incoming : Maps) (sl : Sound live) 
       ≡ ((is_some ot || is_some op) && ((is_some it || is_some ip) && not (things_equal same (thing ot (changed (whole live) op)) (thing it (changed (whole incoming) ip)))))
   unfolding tests
   cases None None None None p q u v = refl
-  cases None None (Some t) None p q u v = rw and_no
-  cases None None None (Some r) p q u v = and_no _
-  cases None None (Some t) (Some r) p q u v = simp and_no
+  cases None None (Some t) None p q u v = rw and-false
+  cases None None None (Some r) p q u v = and-false _
+  cases None None (Some t) (Some r) p q u v = simp and-false
   cases (Some s) None None None p q u v = refl
-  cases (Some s) None (Some t) None p q u v = simp (and_no, or_no)
+  cases (Some s) None (Some t) None p q u v = simp (and-false, or-false)
   cases (Some s) None None (Some r) p q u v = rw (si.link k r u v).0
   cases (Some s) None (Some t) (Some r) p q u v =
       let e : template_equal same s t ≡ false =
@@ -126,13 +112,13 @@ module _ (same : ℕ → ℕ → Bool) (live incoming : Maps) (sl : Sound live) 
       rw e
   cases None (Some l) None None p q u v = refl
   cases None (Some l) (Some t) None p q u v = rw (ne_eqb t.slots.bits 0 (si.alone k t u v))
-  cases None (Some l) None (Some r) p q u v = simp (and_no, or_no)
+  cases None (Some l) None (Some r) p q u v = simp (and-false, or-false)
   cases None (Some l) (Some t) (Some r) p q u v =
       let e : parts_equal same (whole live l) (whole incoming r) ≡ false =
       refuted _ (λ h. linked_both l r (same_policy same (whole live l) (whole incoming r) h).link (sl.link k l p q).0 (si.static k t r u v).1) in
       rw e
   cases (Some s) (Some l) None None p q u v = refl
-  cases (Some s) (Some l) (Some t) None p q u v = rw (ne_eqb t.slots.bits 0 (si.alone k t u v), or_yes)
+  cases (Some s) (Some l) (Some t) None p q u v = rw (ne_eqb t.slots.bits 0 (si.alone k t u v), or-true)
   cases (Some s) (Some l) None (Some r) p q u v =
       let e : parts_equal same (whole live l) (whole incoming r) ≡ false =
       refuted _ (λ h. linked_both r l (sym (same_policy same (whole live l) (whole incoming r) h).link) (si.link k r u v).0 (sl.static k s l p q).1) in
@@ -144,7 +130,7 @@ module _ (same : ℕ → ℕ → Bool) (live incoming : Maps) (sl : Sound live) 
       ∙ go (template_equal same s t) (parts_equal same (whole live l) (whole incoming r)) refl refl
     where
       go : (x y : Bool) → template_equal same s t ≡ x → parts_equal same (whole live l) (whole incoming r) ≡ y → (not x || not y) ≡ not y
-      go x false e f = or_yes (not x)
+      go x false e f = or-true (not x)
       go true true e f = refl
       go false true e f =
           let a = sl.static k s l p q in
@@ -157,9 +143,13 @@ module _ (same : ℕ → ℕ → Bool) (live incoming : Maps) (sl : Sound live) 
           no_true (sym e ∙ is_template_equal same s t g)
 
   first : (o : Option Template) → template_at incoming k ≡ o
-      → passes (unequal_template same live) o ≡ unequal (template_equal same) (template_at live k) o
+      → passes (other_template same live) o ≡ unequal (template_equal same) (template_at live k) o
   first None e = sym (unequal_none (template_equal same) (template_at live k))
-  first (Some t) e = ap (λ j. unequal (template_equal same) (template_at live j) (Some t)) (lookup_key template_id k incoming.templates t e)
+  first (Some t) e = by (template_at live t.id) ∙ ap (λ j. unequal (template_equal same) (template_at live j) (Some t)) (lookup_key template_id k incoming.templates t e)
+    where
+      by : (o : Option Template) → passes (λ s. not (template_equal same s t)) o ≡ unequal (template_equal same) o (Some t)
+      by None = refl
+      by (Some s) = refl
 
   second : (o : Option PolicyRow) → row_at incoming k ≡ o
       → passes (unequal_policy same live incoming) o ≡ unequal (parts_equal same) (in_force live k) (changed (whole incoming) o)
@@ -179,13 +169,13 @@ module _ (same : ℕ → ℕ → Bool) (live incoming : Maps) (sl : Sound live) 
   fourth (Some r) e = ap (λ j. r.link && is_some (template_at live j)) (lookup_key policy_id k incoming.policies r e)
 
   counted : times itself k (gathered same live incoming)
-      ≡ one_if ((((false || passes (unequal_template same live) (template_at incoming k)) || passes (unequal_policy same live incoming) (row_at incoming k))
+      ≡ one_if ((((false || passes (other_template same live) (template_at incoming k)) || passes (unequal_policy same live incoming) (row_at incoming k))
       || passes (template_on_policy live) (template_at incoming k)) || passes (link_on_template live) (row_at incoming k))
   counted =
       gather-times policy_id (link_on_template live) _ _ incoming.policies si.policies_once
       (gather-times template_id (template_on_policy live) _ _ incoming.templates si.templates_once
       (gather-times policy_id (unequal_policy same live incoming) _ _ incoming.policies si.policies_once
-      (gather-times template_id (unequal_template same live) (λ j. false) [] incoming.templates si.templates_once (λ j. refl)))) k
+      (gather-times template_id (other_template same live) (λ j. false) [] incoming.templates si.templates_once (λ j. refl)))) k
 
   -- an id is gathered once where it names unequal things, and else not at all
   pub gathered_times : times itself k (gathered same live incoming) ≡ one_if (clash same live incoming k)

@@ -11,6 +11,7 @@ pub mod Added
 pub mod Changes
 pub mod Removed
 pub mod Listings
+pub mod Listed
 pub mod Validates
 pub mod Granted
 pub mod Sets

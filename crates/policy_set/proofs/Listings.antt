@@ -1,5 +1,5 @@
 -- The law of a listing by places among the rows that pass a test.
-use Rattle.std.proofs.Common.{◌≡◌, ℕ, zero, suc, ◌+◌, ◌<◌, ◌≤◌, Bool, true, false, cond, eqb, List, [], ◌∷◌, Some, None, filter, Option, sym, refl, ap, ◌∙◌, arith, eq-eqb, eqb-true}
+use Rattle.std.proofs.Common.{◌≡◌, ℕ, zero, suc, ◌<◌, ◌≤◌, Bool, true, false, cond, eqb, List, [], ◌∷◌, Some, None, filter, Option, sym, refl, ap, ◌∙◌, arith, eq-eqb, eqb-true}
 use Rattle.std.specs.List.{slice_get}
 use Rattle.policy_set.specs.Tables.{lookup, one_if, times, Once}
 use Rattle.policy_set.specs.declared.rows.PolicyRow.{PolicyRow}
@@ -7,6 +7,7 @@ use Rattle.policy_set.specs.Rows.{policy_id}
 use Rattle.policy_set.specs.Maps.{changed}
 use Rattle.policy_set.specs.Listing.{Lists, any_row, both_ids, first_id}
 use Rattle.policy_set.proofs.Lookups.{no_some}
+use Rattle.policy_set.proofs.Changes.{times-kept}
 
 counted : (a b : ℕ) → a ≡ b → one_if (eqb a b) ≡ 1
 counted a b e = ap one_if (eq-eqb a b e)
@@ -32,14 +33,6 @@ twice key (z ∷ rows) zero (suc q) k x y l e f h g =
     omega arith
 twice key (z ∷ rows) (suc p) (suc q) k x y l e f h g =
     let r = twice key rows p q k x y (omega arith) e f h g in omega arith
-
-times-kept : {X : Type 0} (key : X → ℕ) (test : X → Bool) (k : ℕ) (rows : List X) → times key k (filter test rows) ≤ times key k rows
-times-kept key test k [] = omega arith
-times-kept key test k (x ∷ rows) = by (test x) (times-kept key test k rows) where
-  by : (b : Bool) → times key k (filter test rows) ≤ times key k rows
-      → times key k (cond b (x ∷ filter test rows) (filter test rows)) ≤ one_if (eqb (key x) k) + times key k rows
-  by true h = omega arith
-  by false h = omega arith
 
 -- A row at a place is the one that its key finds, where no two rows have one key.
 found : {X : Type 0} (key : X → ℕ) (rows : List X) (p k : ℕ) (x : X) → times key k rows ≤ 1 → slice_get rows p ≡ Some x → key x ≡ k
@@ -109,7 +102,7 @@ lists key test rows at o says = record {
   once = λ p q k e f.
       let v = of_changed key (slice_get (filter test rows) p) k (sym (says p) ∙ e) in
       let w = of_changed key (slice_get (filter test rows) q) k (sym (says q) ∙ f) in
-      let l = times-kept key test k rows in
+      let l = times-kept key k test rows in
       let m = o k in
       tri p q
       (λ h. let t = twice key (filter test rows) p q k v.0 w.0 h v.1 w.1 v.2 w.2 in elim (let z : ⊥ = omega arith in z) [ ])

@@ -14,18 +14,18 @@ use Rattle.policy_set.specs.Maps.{Maps}
 use Rattle.policy_set.specs.Meaning.{maps_of}
 use Rattle.policy_set.specs.Sound.{Sound}
 use Rattle.policy_set.specs.Answers.{refuse_if}
-use Rattle.policy_set.specs.Merge.{gather, gathered, final, merged, rows_more, unequal_template, unequal_policy, template_on_policy, link_on_template}
+use Rattle.policy_set.specs.Answers.{other_template}
+use Rattle.policy_set.specs.Merge.{gather, gathered, final, merged, rows_more, unequal_policy, template_on_policy, link_on_template}
 use Rattle.policy_set.specs.MergeLaw.{old_ids, Merges}
 use Rattle.policy_set.specs.Choice.{candidates, choose, taken_by, enter_all, ReadsBack}
-use Rattle.policy_set.specs.MergeCall.{too_many, merge_tests, named_pairs, merge_outcome, merge_answer, news_for, FindsNames}
+use Rattle.policy_set.specs.MergeCall.{too_many, merge_tests, named_pairs, merge_outcome, merge_answer, news_for, Holdable, FindsNames}
 use Rattle.policy_set.proofs.Accepted.{accepted_then, not_refused}
-use Rattle.policy_set.proofs.MergedSound.{kept_of}
 use Rattle.policy_set.proofs.MergeLaws.{merges}
 use Rattle.policy_set.proofs.NameSearch.{length_ids, names_found}
 use Rattle.policy_set.proofs.NewNames.{chosen}
 use Rattle.policy_set.proofs.NewTexts.{reads_back, enter_new}
 use Rattle.policy_set.proofs.RowCounts.{few_members, gather-length}
-use Rattle.policy_set.proofs.Updates.{Kept}
+use Rattle.policy_set.proofs.Updates.{kept_of}
 
 -- what the tests leave to know
 pub record Fits (live incoming : Maps) (ids : List ℕ) (room : ℕ) : Type 0 where
@@ -65,10 +65,7 @@ length_olds (p ∷ ps) = ap suc (length_olds ps)
 -- what holds where a merge is accepted
 pub record Ready (limits : Limits) (texts : List (List ℕ)) (same : ℕ → ℕ → Bool) (live incoming : Maps) (room : ℕ) (pairs : List Renaming) : Type 0 where
   pub buffer : length pairs ≤ room
-  pub templates : length (merged (final pairs) live incoming).templates ≤ 64
-  pub policies : length (merged (final pairs) live incoming).policies ≤ 256
-  pub members : length (merged (final pairs) live incoming).members ≤ 256
-  pub kept : Kept (merged (final pairs) live incoming)
+  pub holdable : Holdable (merged (final pairs) live incoming)
   pub merges : Merges same live incoming (merged (final pairs) live incoming) pairs
   pub reads : ReadsBack (texts ++ candidates (news_for texts same live incoming)) pairs
   pub book : enter_all limits texts (news_for texts same live incoming) ≡ texts ++ candidates (news_for texts same live incoming)
@@ -82,25 +79,22 @@ ready limits texts same live incoming rename room pairs sl si e =
     let n = named limits texts (news_for texts same live incoming) (choose texts (taken_by live incoming) 65536 0 0 ids) pairs a.1 in
     let ch = chosen texts 65536 (omega arith) same live incoming pairs n.found in
     let m = merges same live incoming pairs sl si ch in
+    let k = kept_of (merged (final pairs) live incoming) m.sound in
     record {
       buffer = omega (arith, f.buffer, length_olds pairs, ap length ch.olds);
-      templates = omega (arith, f.templates, m.counts.templates);
-      policies = omega (arith, f.policies, m.counts.policies);
-      members = omega (arith, f.policies, m.counts.policies, few_members (merged (final pairs) live incoming) m.sound);
-      kept = kept_of (merged (final pairs) live incoming) m.sound;
+      holdable = record {
+        templates = omega (arith, f.templates, m.counts.templates);
+        policies = omega (arith, f.policies, m.counts.policies);
+        members = omega (arith, f.policies, m.counts.policies, few_members (merged (final pairs) live incoming) m.sound);
+        names_one = k.one;
+        valued = k.values;
+        scoped = k.scopes;
+        same_members = k.members;
+      };
       merges = m;
       reads = reads_back texts (taken_by live incoming) 65536 ids pairs n.found;
       book = enter_new limits texts (taken_by live incoming) 65536 (omega arith) ids n.room;
     }
-
--- one pass more
-pub pass_length : {X : Type 0} (key : X → ℕ) (test : X → Bool) (ids after : List ℕ) (xs : List X) (m n : ℕ) → length ids ≤ m → length xs ≤ n → after ≡ gather key test ids xs → length after ≤ m + n
-pass_length key test ids after xs m n l k e = omega (arith, (gather-length key test ids xs).1, ap length e, l, k)
-
--- a refusal before the names are chosen
-pub refused_outcome : {X : Type 0} (tests : Result (Unit {0}) Refusal) (e : Refusal) (rest : Result X Refusal) → Err e ≡ tests → Err e ≡ and_then tests rest
-refused_outcome (Ok u) e rest q = let z : ◌≡◌ {A = ℕ} 0 1 = cc in absurd (omega arith)
-refused_outcome (Err d) e rest q = let z : e ≡ d = cc in ap Err z
 
 -- the four passes note at most so many ids
 pub few_gathered : (same : ℕ → ℕ → Bool) (live incoming : Maps)
@@ -108,10 +102,10 @@ pub few_gathered : (same : ℕ → ℕ → Bool) (live incoming : Maps)
 few_gathered same live incoming =
     let ts = incoming.templates in
     let ps = incoming.policies in
-    let i1 = gather template_id (unequal_template same live) [] ts in
+    let i1 = gather template_id (other_template same live) [] ts in
     let i2 = gather policy_id (unequal_policy same live incoming) i1 ps in
     let i3 = gather template_id (template_on_policy live) i2 ts in
-    let a = gather-length template_id (unequal_template same live) [] ts in
+    let a = gather-length template_id (other_template same live) [] ts in
     let b = gather-length policy_id (unequal_policy same live incoming) i1 ps in
     let c = gather-length template_id (template_on_policy live) i2 ts in
     let d = gather-length policy_id (link_on_template live) i3 ps in

@@ -1,17 +1,14 @@
 -- A merge keeps what every policy set keeps.
-use Rattle.std.proofs.Common.{◌≡◌, ℕ, Bool, true, false, not, ◌&&◌, eqb, Some, None, Option, sym, refl, ap, ◌∙◌, inl, inr}
-use Rattle.std.proofs.lemmas.Bool.{eq-eqb, and_from, not_from_false}
+use Rattle.std.proofs.Common.{◌≡◌, ℕ, Bool, true, false, Some, None, Option, sym, refl, ap, ◌∙◌, inl, inr}
 use Rattle.policy.specs.declared.template.Template.{Template}
 use Rattle.policy.specs.Binding.{value_slots}
 use Rattle.policy_set.specs.declared.rows.PolicyRow.{PolicyRow}
-use Rattle.policy_set.specs.declared.rows.Member.{Member}
 use Rattle.policy_set.specs.Rows.{template_id, policy_id, member_id}
-use Rattle.policy_set.specs.Maps.{Maps, template_at, row_at, member_at, changed, passes}
-use Rattle.policy_set.specs.Sound.{Sound, member, has_slots, one_thing, valued, scoped, scopes_within, same_member}
+use Rattle.policy_set.specs.Maps.{Maps, template_at, row_at, member_at, changed}
+use Rattle.policy_set.specs.Sound.{Sound, member, scopes_within}
 use Rattle.policy_set.specs.Merge.{renamed_template, renamed_row, renamed_member, merged}
-use Rattle.policy_set.proofs.Lookups.{some_same, lookup_key, once_all}
-use Rattle.policy_set.proofs.Sounds.{template_of, has_slots_from, slotless_from}
-use Rattle.policy_set.proofs.Updates.{Kept}
+use Rattle.policy_set.proofs.Lookups.{some_same, once_all}
+use Rattle.policy_set.proofs.Sounds.{template_of}
 use Rattle.policy_set.proofs.FinalIds.{Moves}
 use Rattle.policy_set.proofs.NamedAfter.{changed_some, changed_none, names, incoming_template, live_template}
 
@@ -116,37 +113,3 @@ module _ (same : ℕ → ℕ → Bool) (live incoming : Maps) (f : ℕ → ℕ) 
     values = values_after;
     scopes = scopes_after;
   }
-
--- what is sound passes the tests of a set's type
-pub kept_of : (m : Maps) → Sound m → Kept m
-kept_of m so = record {
-  one = λ k. one k (template_at m k) (row_at m k) refl refl;
-  values = λ k. values k (row_at m k) refl;
-  scopes = λ k. scopes k (template_at m k) refl;
-  members = λ k. ap (λ (o : Option Member). same_member o (row_at m k)) (so.members k) ∙ members (row_at m k);
-}
-  where
-    one : (k : ℕ) (o : Option Template) (p : Option PolicyRow) → template_at m k ≡ o → row_at m k ≡ p → one_thing m o p ≡ true
-    one k None None e f = refl
-    one k (Some t) None e f = has_slots_from t (so.alone k t e f)
-    one k None (Some r) e f =
-        let l = so.link k r e f in
-        and_from r.link (passes has_slots (template_at m r.template)) l.0 (ap (passes has_slots) l.1.1 ∙ has_slots_from l.1.0 l.1.2)
-    one k (Some t) (Some r) e f =
-        let s = so.static k t r e f in
-        and_from (not r.link) (eqb r.template t.id && not (has_slots t)) (not_from_false r.link s.1)
-        (and_from (eqb r.template t.id) (not (has_slots t)) (eq-eqb r.template t.id (s.0 ∙ sym (lookup_key template_id k m.templates t e))) (slotless_from t s.2))
-
-    values : (k : ℕ) (p : Option PolicyRow) → row_at m k ≡ p → valued m p ≡ true
-    values k None f = refl
-    values k (Some r) f =
-        let t = template_of m so k r f in
-        ap (passes (λ (u : Template). eqb (value_slots r.values) u.slots.bits)) t.1 ∙ eq-eqb (value_slots r.values) t.0.slots.bits (so.values k r t.0 f t.1)
-
-    scopes : (k : ℕ) (o : Option Template) → template_at m k ≡ o → scoped o ≡ true
-    scopes k None e = refl
-    scopes k (Some t) e = so.scopes k t e
-
-    members : (p : Option PolicyRow) → same_member (changed member p) p ≡ true
-    members None = refl
-    members (Some r) = eq-eqb r.template r.template refl

@@ -1,5 +1,5 @@
 -- Where both sets bind only names of the book, the search for a new name always ends with one.
-use Rattle.std.proofs.Common.{◌≡◌, ℕ, zero, suc, ◌+◌, ◌-◌, ◌^◌, ◌<◌, ◌≤◌, Bool, true, false, cond, ◌||◌, eqb, List, [], ◌∷◌, ◌++◌, length, is_some, Some, None, Option, sym, refl, ap, ◌∙◌, subst, inl, inr, arith, length-append}
+use Rattle.std.proofs.Common.{◌≡◌, unwrap_or, ℕ, zero, suc, ◌+◌, ◌-◌, ◌^◌, ◌<◌, ◌≤◌, Bool, true, false, cond, ◌||◌, eqb, List, [], ◌∷◌, ◌++◌, length, is_some, Some, None, Option, sym, refl, ap, ◌∙◌, subst, inl, inr, arith, length-append}
 use Rattle.std.proofs.lemmas.Bool.{eqb-true, or_cases, or_right}
 use Rattle.names.specs.Names.{number_of}
 use Rattle.policy_set.specs.declared.rows.Renaming.{Renaming}
@@ -8,7 +8,7 @@ use Rattle.policy_set.specs.Tables.{lookup, erase}
 use Rattle.policy_set.specs.Rows.{template_id, policy_id}
 use Rattle.policy_set.specs.Maps.{Maps, bound}
 use Rattle.policy_set.specs.Merge.{among}
-use Rattle.policy_set.specs.Choice.{candidate, number_or, attempt, first_free, after_these, pair, choose, taken_by}
+use Rattle.policy_set.specs.Choice.{candidate, attempt, first_free, after_these, pair, choose, taken_by}
 use Rattle.policy_set.proofs.Lookups.{no_some, some_same}
 use Rattle.policy_set.proofs.Sounds.{no_true}
 use Rattle.policy_set.proofs.Gathered.{itself}
@@ -72,10 +72,10 @@ module _ (texts : List (List ℕ)) (taken : ℕ → Bool) (limit : ℕ) (small :
         room = omega arith;
       }
       go nx true None p q =
-          let w : taken (length texts + fresh) ≡ true = subst (λ (o : Option ℕ). taken (number_or (length texts + fresh) o) ≡ true) q p in
+          let w : taken (length texts + fresh) ≡ true = subst (λ (o : Option ℕ). taken (unwrap_or o (length texts + fresh)) ≡ true) q p in
           absurd (omega (arith, own (length texts + fresh) w))
       go nx true (Some m) p q =
-          let w : taken m ≡ true = subst (λ (o : Option ℕ). taken (number_or (length texts + fresh) o) ≡ true) q p in
+          let w : taken m ≡ true = subst (λ (o : Option ℕ). taken (unwrap_or o (length texts + fresh)) ≡ true) q p in
           let g = nx m q w in
           record {
             try = g.try;

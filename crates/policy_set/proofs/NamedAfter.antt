@@ -1,6 +1,7 @@
 -- What each id names after a merge.
-use Rattle.std.proofs.Common.{◌≡◌, ℕ, Bool, true, false, cond, ◌||◌, ◌⊎◌, is_some as option_is_some, Some, None, Option, sym, refl, ap, ◌∙◌, subst, inl, inr}
+use Rattle.std.proofs.Common.{◌≡◌, ℕ, Bool, true, false, ◌||◌, ◌⊎◌, is_some as option_is_some, Some, None, Option, sym, refl, ap, ◌∙◌, subst, inl, inr}
 use Rattle.std.proofs.lemmas.Bool.{or_left, or_right}
+use Rattle.std.specs.Bool.{then_some}
 use Rattle.policy.specs.declared.template.Template.{Template}
 use Rattle.policy.specs.Equality.{template_equal}
 use Rattle.policy.specs.Arity.{Parts}
@@ -56,14 +57,14 @@ named_template m so k t p n = go (row_at m k) refl
 link_renamed : (f : ℕ → ℕ) (r : PolicyRow) → link_of (renamed_row f r) ≡ changed f (link_of r)
 link_renamed f r = go r.link
   where
-    go : (b : Bool) → cond b (Some (f r.id)) None ≡ changed f (cond b (Some r.id) None)
+    go : (b : Bool) → then_some b (f r.id) ≡ changed f (then_some b r.id)
     go true = refl
     go false = refl
 
 link_stays : (f : ℕ → ℕ) (r : PolicyRow) → f r.id ≡ r.id → changed f (link_of r) ≡ link_of r
 link_stays f r e = go r.link
   where
-    go : (b : Bool) → changed f (cond b (Some r.id) None) ≡ cond b (Some r.id) None
+    go : (b : Bool) → changed f (then_some b r.id) ≡ then_some b r.id
     go true = ap Some e
     go false = refl
 

@@ -1,5 +1,5 @@
 -- The new ids that are chosen: distinct, taken by neither set, and never out of reach.
-use Rattle.std.proofs.Common.{◌≡◌, ℕ, zero, suc, ◌+◌, ◌-◌, ◌^◌, ◌<◌, ◌≤◌, Bool, true, false, cond, not, eqb, ◌⊎◌, List, [], ◌∷◌, length, drop, is_some, Some, None, Option, sym, refl, ap, ◌∙◌, subst, inl, inr, arith}
+use Rattle.std.proofs.Common.{◌≡◌, unwrap_or, ℕ, zero, suc, ◌+◌, ◌-◌, ◌^◌, ◌<◌, ◌≤◌, Bool, true, false, cond, not, eqb, ◌⊎◌, List, [], ◌∷◌, length, drop, is_some, Some, None, Option, sym, refl, ap, ◌∙◌, subst, inl, inr, arith}
 use Rattle.std.proofs.lemmas.Bool.{eqb-true, or_parts}
 use Rattle.std.proofs.lemmas.Fmt.{decimal_injective}
 use Rattle.names.specs.Names.{number_of}
@@ -10,7 +10,7 @@ use Rattle.policy_set.specs.Tables.{one_if, lookup, times, Once}
 use Rattle.policy_set.specs.Maps.{Maps, bound}
 use Rattle.policy_set.specs.Merge.{gathered, new_id}
 use Rattle.policy_set.specs.MergeLaw.{old_ids, Chosen}
-use Rattle.policy_set.specs.Choice.{candidate, number_or, attempt, first_free, after_these, pair, choose, taken_by}
+use Rattle.policy_set.specs.Choice.{candidate, attempt, first_free, after_these, pair, choose, taken_by}
 use Rattle.policy_set.proofs.Lookups.{no_some, some_same, times_none}
 
 -- distinct counters have distinct texts
@@ -55,7 +55,7 @@ pub kind : (texts : List (List ℕ)) (fresh c : ℕ) (t : Try) → attempt texts
 kind texts fresh c t e = subst (Kind texts fresh c) e (go (number_of (candidate c) texts) refl)
   where
     go : (o : Option ℕ) → number_of (candidate c) texts ≡ o
-        → Kind texts fresh c (record { name = number_or (length texts + fresh) o; counter = c + 1; fresh = fresh + one_if (not (is_some o)) })
+        → Kind texts fresh c (record { name = unwrap_or o (length texts + fresh); counter = c + 1; fresh = fresh + one_if (not (is_some o)) })
     go None p = new p refl refl refl
     go (Some m) p = present p refl (omega arith)
 

@@ -1,5 +1,7 @@
 -- The texts that enter the book with the new ids.
 use Rattle.std.proofs.Common.{◌≡◌, ℕ, ◌+◌, ◌-◌, ◌^◌, ◌<◌, ◌≤◌, Bool, true, false, cond, eqb, ltb, leb, List, [], ◌∷◌, ◌++◌, length, get_or, Some, None, Ok, Err, codes, decimal, Option, sym, refl, ap, ◌∙◌, subst, arith, length-append}
+use Rattle.std.specs.List.{sum_by}
+use Rattle.std.proofs.lemmas.List.Sums.{sum_by-cons}
 use Rattle.std.proofs.lemmas.Bool.{eqb-true, lt-ltb, le-ltb, leb-true, le-leb, and_parts, and_from, cond-true, cond-false}
 use Rattle.std.proofs.lemmas.List.{append_assoc, append-nil, length_push, get_or_at, get_or_append_left}
 use Rattle.std.proofs.lemmas.Fmt.{length-decimal-le}
@@ -161,8 +163,8 @@ module _ (limits : Limits) (texts : List (List ℕ)) (limit : ℕ) (small : limi
       let p = leb-true (length base + length (d ∷ ds)) limits.places w.0 in
       let q = leb-true (bytes_in base + bytes_in (candidates (d ∷ ds))) limits.room w.1 in
       let f : fits limits base (candidate d) ≡ true =
-      and_from (ltb (length base) limits.places) (leb (bytes_in base + length (candidate d)) limits.room)
-      (lt-ltb (length base) limits.places (omega arith)) (le-leb (bytes_in base + length (candidate d)) limits.room (omega arith)) in
+      and_from (leb (length base + 1) limits.places) (leb (bytes_in base + length (candidate d)) limits.room)
+      (le-leb (length base + 1) limits.places (omega arith)) (le-leb (bytes_in base + length (candidate d)) limits.room (omega arith)) in
       let a = named_last limits base d (omega (arith, r.1)) n f in
       ap (λ (b : List (List ℕ)). enter_all limits b ds) a
       ∙ (entered (d + 1) (base ++ candidate d ∷ []) ds r.3
@@ -179,3 +181,8 @@ pub enter_new : (limits : Limits) (texts : List (List ℕ)) (taken : ℕ → Boo
     → enter_all limits texts (new_texts texts taken limit 0 0 is) ≡ texts ++ candidates (new_texts texts taken limit 0 0 is)
 enter_new limits texts taken limit small is room =
     entered limits texts limit small 0 texts (new_texts texts taken limit 0 0 is) (texts_rising texts taken limit 0 0 is) (λ d low high n. n) room
+
+-- the bytes of counters' texts, one by one
+pub bytes_summed : (news : List ℕ) → sum_by (λ c. length (candidate c)) news ≡ bytes_in (candidates news)
+bytes_summed [] = refl
+bytes_summed (c ∷ news) = sum_by-cons (λ c. length (candidate c)) c news ∙ ap (λ n. length (candidate c) + n) (bytes_summed news)

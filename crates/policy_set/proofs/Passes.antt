@@ -1,20 +1,22 @@
--- One turn of a walk over the rows that pass a test.
-use Rattle.std.proofs.Common.{◌≡◌, ℕ, suc, ◌+◌, ◌-◌, ◌<◌, Bool, true, false, List, ◌∷◌, length, get_or, drop, Some, filter, sym, ap, ◌∙◌, arith}
-use Rattle.std.specs.List.{slice_get}
-use Rattle.std.proofs.lemmas.List.{at_drop_more}
-use Rattle.std.proofs.lemmas.Bool.{cond-true, cond-false}
+-- What a chain over the rows of a table gives.
+use Rattle.std.proofs.Common.{◌≡◌, Bool, true, false, cond, not, ◌||◌, List, [], ◌∷◌, Some, None, filter, Option, refl, ap, ◌∙◌}
+use Rattle.std.specs.List.{list_any}
+use Rattle.std.specs.Option.{MatchOption, IsSomeAnd, option_map}
+use Rattle.policy_set.specs.Answers.{no_rows}
 
-module _ {X : Type 0} (p : X → Bool) (xs : List X) (i : ℕ) (x : X) (h : i < length xs) (e : x ≡ get_or xs i x) where
-  pub passing_no : (n : ℕ) → p x ≡ false → slice_get (filter p (drop (i + 1) xs)) n ≡ slice_get (filter p (drop i xs)) n
-  passing_no n t = sym (ap (λ (ys : List X). slice_get ys n) (at_drop_more (filter p) xs i x h ∙ cond-false _ _ _ (ap p (sym e) ∙ t)))
+-- what `map` gives of what may be there, read by v
+pub mapped : {A X Y : Type 0} (v : A → X) (f : X → Y) (o : Option A) (r : Option Y) (s : Option X) (P : A → Y → Type 0)
+    → MatchOption o (r ≡ None) (λ x. IsSomeAnd r (P x)) → ((x : A) (y : Y) → P x y → y ≡ f (v x)) → option_map v o ≡ s → r ≡ option_map f s
+mapped v f None r s P c k e = c ∙ ap (option_map f) e
+mapped v f (Some x) None s P c k e = absurd c
+mapped v f (Some x) (Some y) s P c k e = ap Some (k x y c) ∙ ap (option_map f) e
 
-  here : p x ≡ true → filter p (drop i xs) ≡ x ∷ filter p (drop (i + 1) xs)
-  here t = at_drop_more (filter p) xs i x h ∙ (cond-true _ _ _ (ap p (sym e) ∙ t) ∙ ap (λ y. y ∷ filter p (drop (i + 1) xs)) (sym e))
-
-  pub passing_here : (n : ℕ) → p x ≡ true → n ≡ 0 → slice_get (filter p (drop i xs)) n ≡ Some x
-  passing_here n t z = ap (λ (ys : List X). slice_get ys n) (here t) ∙ ap (slice_get (x ∷ filter p (drop (i + 1) xs))) z
-
-  pub passing_next : (n : ℕ) → p x ≡ true → (n ≡ 0 → ⊥) → slice_get (filter p (drop (i + 1) xs)) (n - 1) ≡ slice_get (filter p (drop i xs)) n
-  passing_next n t z =
-      let s : suc (n - 1) ≡ n = omega (arith, z) in
-      sym (ap (λ (ys : List X). slice_get ys n) (here t) ∙ sym (ap (slice_get (x ∷ filter p (drop (i + 1) xs))) s))
+-- a row passes where some row is kept
+pub any_kept : {X : Type 0} (test : X → Bool) (xs : List X) → list_any test xs ≡ not (no_rows (filter test xs))
+any_kept test [] = refl
+any_kept test (x ∷ xs) = go (test x) (any_kept test xs)
+  where
+    go : (b : Bool) → list_any test xs ≡ not (no_rows (filter test xs))
+        → (b || list_any test xs) ≡ not (no_rows (cond b (x ∷ filter test xs) (filter test xs)))
+    go true ih = refl
+    go false ih = ih

@@ -1,21 +1,16 @@
 -- What a search for a key finds, and what removing and putting at the place found leaves.
 use Rattle.std.proofs.Common.{◌≡◌, ℕ, suc, ◌+◌, ◌-◌, ◌<◌, ◌≤◌, Bool, true, false, cond, eqb, List, [], ◌∷◌, ◌++◌, length, get_or, take, drop, is_some as option_is_some, Some, None, Option, sym, refl, ap, ◌∙◌, subst, ⊎_elim, arith}
 use native.Mathlib.Nat.{sub-zero}
-use Rattle.std.proofs.lemmas.Bool.{eq-eqb, ne_eqb, eqb-true, eqb-false, cond-true, cond-false, cases_Bool, false≢true}
-use Rattle.std.proofs.lemmas.List.{at_drop_more, drop_more, length-take-le, length_push, take_at}
-use Rattle.policy_set.specs.Tables.{position_from, position, without, erase, lookup, row_last, moved_last, Once}
+use Rattle.std.proofs.lemmas.Bool.{eq-eqb, eqb-true, eqb-false, cond-true, cond-false, cases_Bool, false≢true}
+use Rattle.std.proofs.lemmas.List.{drop_more, length-take-le, length_push, take_at}
+use Rattle.std.specs.List.{position_from, position}
+use Rattle.std.proofs.lemmas.Iterator.Adapters.{position_from-zero}
+use Rattle.policy_set.specs.Tables.{without, erase, lookup, row_last, moved_last, Once}
 use Rattle.policy_set.proofs.Lookups.{no_some, is_some, lookup_key, once_tail, once_head, once_erase, lookup-erase_same, lookup-erase_other}
 
--- one turn of the search: the row at i has the key, or it has not
-pub found_here : {X : Type 0} (key : X → ℕ) (k i : ℕ) (xs : List X) (x : X) → i < length xs → x ≡ get_or xs i x
-    → key x ≡ k → position_from key k i (drop i xs) ≡ Some i
-found_here key k i xs x h e t =
-    at_drop_more (position_from key k i) xs i x h ∙ cond-true _ _ _ (eq-eqb _ _ (ap key (sym e) ∙ t))
-
-pub passed_over : {X : Type 0} (key : X → ℕ) (k i : ℕ) (xs : List X) (x : X) → i < length xs → x ≡ get_or xs i x
-    → (key x ≡ k → ⊥) → position_from key k (i + 1) (drop (i + 1) xs) ≡ position_from key k i (drop i xs)
-passed_over key k i xs x h e t =
-    sym (at_drop_more (position_from key k i) xs i x h ∙ cond-false _ _ _ (ne_eqb _ _ (λ q. t (ap key e ∙ q))))
+-- the row has the key
+abbrev pub has : {X : Type 0} → (X → ℕ) → ℕ → X → Bool
+has key k x = eqb (key x) k
 
 -- what a place found says
 record Hit {X : Type 0} (key : X → ℕ) (k n : ℕ) (xs : List X) (i : ℕ) : Type 0 where
@@ -24,10 +19,10 @@ record Hit {X : Type 0} (key : X → ℕ) (k n : ℕ) (xs : List X) (i : ℕ) : 
   pub erased : erase key k xs ≡ without (i - n) xs
   pub row : (d : X) → lookup key k xs ≡ Some (get_or xs (i - n) d)
 
-hit_from : {X : Type 0} (key : X → ℕ) (k n : ℕ) (xs : List X) (i : ℕ) → position_from key k n xs ≡ Some i → Hit key k n xs i
+hit_from : {X : Type 0} (key : X → ℕ) (k n : ℕ) (xs : List X) (i : ℕ) → position_from (has key k) n xs ≡ Some i → Hit key k n xs i
 hit_from key k n [] i e = no_some i e
 hit_from key k n (x ∷ xs) i e = ⊎_elim
-    (λ t. let a = cond-true (eqb (key x) k) (Some n) (position_from key k (n + 1) xs) t in
+    (λ t. let a = cond-true (eqb (key x) k) (Some n) (position_from (has key k) (n + 1) xs) t in
     let q : n ≡ i = cc in
     let z : i - n ≡ 0 = omega arith in
     record {
@@ -36,7 +31,7 @@ hit_from key k n (x ∷ xs) i e = ⊎_elim
       erased = cond-true (eqb (key x) k) xs (x ∷ erase key k xs) t ∙ sym (ap (λ m. without m (x ∷ xs)) z);
       row = λ d. cond-true (eqb (key x) k) (Some x) (lookup key k xs) t ∙ sym (ap (λ m. Some (get_or (x ∷ xs) m d)) z);
     })
-    (λ t. let h = hit_from key k (n + 1) xs i (sym (cond-false (eqb (key x) k) (Some n) (position_from key k (n + 1) xs) t) ∙ e) in
+    (λ t. let h = hit_from key k (n + 1) xs i (sym (cond-false (eqb (key x) k) (Some n) (position_from (has key k) (n + 1) xs) t) ∙ e) in
     let m = i - (n + 1) in
     let l : n + 1 ≤ i = h.low in
     let z : i - n ≡ suc m = omega arith in
@@ -56,9 +51,9 @@ pub record Found {X : Type 0} (key : X → ℕ) (k : ℕ) (xs : List X) (i : ℕ
   pub erased : erase key k xs ≡ without i xs
   pub row : (d : X) → lookup key k xs ≡ Some (get_or xs i d)
 
-pub found_at : {X : Type 0} (key : X → ℕ) (k : ℕ) (xs : List X) (i : ℕ) → position key k xs ≡ Some i → Found key k xs i
+pub found_at : {X : Type 0} (key : X → ℕ) (k : ℕ) (xs : List X) (i : ℕ) → position (has key k) xs ≡ Some i → Found key k xs i
 found_at key k xs i e =
-    let h = hit_from key k 0 xs i e in
+    let h = hit_from key k 0 xs i (sym (position_from-zero (has key k) xs) ∙ e) in
     record {
       within = omega (arith, h.high);
       erased = h.erased ∙ ap (λ m. without m xs) (sub-zero i);
@@ -70,26 +65,21 @@ pub record Missed {X : Type 0} (key : X → ℕ) (k : ℕ) (xs : List X) : Type 
   pub erased : erase key k xs ≡ xs
   pub none : lookup key k xs ≡ None
 
-pub missed_from : {X : Type 0} (key : X → ℕ) (k n : ℕ) (xs : List X) → position_from key k n xs ≡ None → Missed key k xs
+missed_from : {X : Type 0} (key : X → ℕ) (k n : ℕ) (xs : List X) → position_from (has key k) n xs ≡ None → Missed key k xs
 missed_from key k n [] e = record { erased = refl; none = refl }
 missed_from key k n (x ∷ xs) e = ⊎_elim
-    (λ t. no_some n (sym e ∙ cond-true (eqb (key x) k) (Some n) (position_from key k (n + 1) xs) t))
-    (λ t. let h = missed_from key k (n + 1) xs (sym (cond-false (eqb (key x) k) (Some n) (position_from key k (n + 1) xs) t) ∙ e) in
+    (λ t. no_some n (sym e ∙ cond-true (eqb (key x) k) (Some n) (position_from (has key k) (n + 1) xs) t))
+    (λ t. let h = missed_from key k (n + 1) xs (sym (cond-false (eqb (key x) k) (Some n) (position_from (has key k) (n + 1) xs) t) ∙ e) in
     record {
       erased = cond-false (eqb (key x) k) xs (x ∷ erase key k xs) t ∙ ap (λ ys. x ∷ ys) h.erased;
       none = cond-false (eqb (key x) k) (Some x) (lookup key k xs) t ∙ h.none;
     })
     (cases_Bool (eqb (key x) k))
 
--- a search of the first `used` rows
-pub found_in : {X : Type 0} (key : X → ℕ) (k : ℕ) (xs : List X) (used i : ℕ) → used ≤ length xs
-    → Some i ≡ position key k (take (used - 0) xs) → Found key k (take used xs) i
-found_in key k xs used i l e = found_at key k (take used xs) i (sym (e ∙ ap (λ m. position key k (take m xs)) (sub-zero used)))
+pub missed_at : {X : Type 0} (key : X → ℕ) (k : ℕ) (xs : List X) → position (has key k) xs ≡ None → Missed key k xs
+missed_at key k xs e = missed_from key k 0 xs (sym (position_from-zero (has key k) xs) ∙ e)
 
-pub missed_in : {X : Type 0} (key : X → ℕ) (k : ℕ) (xs : List X) (used : ℕ)
-    → None ≡ position key k (take (used - 0) xs) → Missed key k (take used xs)
-missed_in key k xs used e = missed_from key k 0 (take used xs) (sym (e ∙ ap (λ m. position key k (take m xs)) (sub-zero used)))
-
+-- a row found among the first `used`
 pub found_below : {X : Type 0} (key : X → ℕ) (k : ℕ) (xs : List X) (used i : ℕ) → used ≤ length xs
     → Found key k (take used xs) i → i < used
 found_below key k xs used i l f = omega (arith, f.within, length-take-le used xs l)
@@ -144,10 +134,10 @@ length_moved {X} key k xs = go (lookup key k xs) refl
         length_push (erase key (key x) xs) x ∙ l
 
 pub moved_front : {X : Type 0} (key : X → ℕ) (k : ℕ) (xs zs post : List X) (used i : ℕ) → used ≤ length xs → Found key k (take used xs) i
-    → zs ≡ without i (take (used - 0) xs) ++ take 1 (drop i (take (used - 0) xs)) → take used (zs ++ post) ≡ moved_last key k (take used xs)
+    → zs ≡ without i (take used xs) ++ take 1 (drop i (take used xs)) → take used (zs ++ post) ≡ moved_last key k (take used xs)
 moved_front {X} key k xs zs post used i l f e =
     let m : zs ≡ moved_last key k (take used xs) =
-    e ∙ (ap (λ m. without i (take m xs) ++ take 1 (drop i (take m xs))) (sub-zero used) ∙ moved_found key k (take used xs) i f) in
+    e ∙ moved_found key k (take used xs) i f in
     let n : length zs ≡ used = ap length m ∙ (length_moved key k (take used xs) ∙ length-take-le used xs l) in
     take_at zs post used n ∙ m
 

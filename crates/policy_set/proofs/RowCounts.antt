@@ -1,5 +1,5 @@
 -- How many rows there are after a merge.
-use Rattle.std.proofs.Common.{◌≡◌, ℕ, suc, ◌+◌, ◌≤◌, Bool, true, false, cond, not, ◌&&◌, ◌||◌, eqb, List, [], ◌∷◌, ◌++◌, length, is_some, Some, None, Option, sym, refl, ap, ◌∙◌, arith}
+use Rattle.std.proofs.Common.{◌≡◌, ℕ, suc, ◌+◌, ◌≤◌, Bool, true, false, cond, not, ◌&&◌, ◌||◌, eqb, List, [], ◌∷◌, ◌++◌, length, filter, map, is_some, Some, None, Option, sym, refl, ap, ◌∙◌, arith}
 use Rattle.std.proofs.lemmas.List.{length_push}
 use Rattle.std.proofs.lemmas.Bool.{false≢true, eq-eqb, ne_eqb, or_left, or_right, cond_both}
 use Rattle.policy_set.specs.declared.rows.Renaming.{Renaming}
@@ -7,7 +7,7 @@ use Rattle.policy_set.specs.Tables.{one_if, lookup, erase, put_last, put_all, On
 use Rattle.policy_set.specs.Rows.{template_id, policy_id, member_id}
 use Rattle.policy_set.specs.Maps.{Maps, changed, row_at}
 use Rattle.policy_set.specs.Sound.{Sound, member}
-use Rattle.policy_set.specs.Merge.{among, noted, gather, gathered, final, origin, renamed_template, renamed_row, merged, rows_more}
+use Rattle.policy_set.specs.Merge.{among, noted, gather, gathered, final, origin, renamed_template, renamed_row, merged, is_more, rows_more}
 use Rattle.policy_set.specs.MergeLaw.{clash, Chosen, FinalIds, RowsCounted}
 use Rattle.policy_set.proofs.Lookups.{some_same, lookup-put, once_put, once_tail, once_head}
 use Rattle.policy_set.proofs.PutAll.{head_there, rest_there}
@@ -24,7 +24,7 @@ erased_length key k (x ∷ xs) = go (erased_length key k xs) (eqb (key x) k)
     go ih true = omega arith
     go ih false = omega (arith, ih)
 
-put-length : {X : Type 0} (key : X → ℕ) (x : X) (xs : List X) → length (put_last key x xs) ≡ length xs + one_if (not (is_some (lookup key (key x) xs)))
+pub put-length : {X : Type 0} (key : X → ℕ) (x : X) (xs : List X) → length (put_last key x xs) ≡ length xs + one_if (not (is_some (lookup key (key x) xs)))
 put-length key x xs = length_push (erase key (key x) xs) x ∙ go (is_some (lookup key (key x) xs)) (erased_length key (key x) xs)
   where
     go : (c : Bool) → length (erase key (key x) xs) + one_if c ≡ length xs → length (erase key (key x) xs) + 1 ≡ length xs + one_if (not c)
@@ -143,3 +143,12 @@ gather-length key test ids (x ∷ xs) =
     let n = noted-length (test x) (key x) ids in
     let g = gather-length key test (noted (test x) (key x) ids) xs in
     (omega (arith, n.0, g.0), omega (arith, n.1, g.1))
+
+-- counting the rows that pass the test counts the rows more
+pub more_passed : {X : Type 0} (key : X → ℕ) (ids : List ℕ) (live xs : List X) → length (filter (is_more key ids live) (map key xs)) ≡ rows_more key ids live xs
+more_passed key ids live [] = refl
+more_passed key ids live (x ∷ xs) = by (is_more key ids live (key x)) (more_passed key ids live xs) where
+  by : (b : Bool) → length (filter (is_more key ids live) (map key xs)) ≡ rows_more key ids live xs
+      → length (cond b (key x ∷ filter (is_more key ids live) (map key xs)) (filter (is_more key ids live) (map key xs))) ≡ one_if b + rows_more key ids live xs
+  by true h = omega (arith, h)
+  by false h = omega (arith, h)

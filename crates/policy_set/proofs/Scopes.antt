@@ -1,5 +1,5 @@
 -- Where a template's slots are its condition's, the slots of its scopes are among them.
-use Rattle.std.proofs.Common.{◌≡◌, Bool, true, false, not, ◌&&◌, ◌||◌, List, refl, ap, ◌∙◌}
+use Rattle.std.proofs.Common.{◌≡◌, Bool, true, false, cond, ◌&&◌, ◌||◌, List, refl, ap, ◌∙◌}
 use Rattle.std.proofs.lemmas.Bool.{and_from}
 use Rattle.refusals.specs.declared.slots.SlotId.{SlotId}
 use Rattle.refusals.specs.declared.slots.SlotId.TheVariants.{Principal, Resource}
@@ -10,7 +10,7 @@ use Rattle.policy.specs.Filling.{slotted}
 use Rattle.policy.specs.Mentions.{mentioned, clause_has, part_has, condition_slots}
 use Rattle.policy.specs.Slots.{has, has_bit}
 use Rattle.policy.proofs.Mentioned.{here_condition}
-use Rattle.policy.proofs.Sets.{has_where}
+use Rattle.refusals.proofs.Sets.{has_where}
 use Rattle.policy.specs.declared.template.Template.{Template}
 use Rattle.policy_set.specs.Sound.{scopes_within}
 
@@ -19,12 +19,12 @@ module _ {C : Type 0} (cs : List (Clause C)) (lawful : Lawful cs) (t : Template)
   has_part slot =
       ap (has_bit slot) cached ∙ (has_where (λ s. mentioned cs s (written (condition_tree cs t))) slot ∙ here_condition cs slot lawful t)
 
-  principal_within : (b : Bool) → slotted t.principal ≡ b → (not b || has Principal t.slots) ≡ true
+  principal_within : (b : Bool) → slotted t.principal ≡ b → cond b (has Principal t.slots) true ≡ true
   principal_within false e = refl
   principal_within true e =
       has_part Principal ∙ ap (λ p. ((p && true) || (slotted t.resource && false)) || clause_has cs t.clause Principal) e
 
-  resource_within : (b : Bool) → slotted t.resource ≡ b → (not b || has Resource t.slots) ≡ true
+  resource_within : (b : Bool) → slotted t.resource ≡ b → cond b (has Resource t.slots) true ≡ true
   resource_within false e = refl
   resource_within true e =
       has_part Resource

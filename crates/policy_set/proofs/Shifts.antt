@@ -1,6 +1,5 @@
 -- What rotating a part by one leaves.
 use Rattle.std.proofs.Common.{◌≡◌, ℕ, ◌+◌, ◌-◌, ◌<◌, ◌≤◌, List, [], ◌++◌, length, take, drop, ap, ◌∙◌, arith}
-use native.Mathlib.Nat.{sub-zero}
 use borrow.Rule.Slice.PartMut.{put_mid}
 use Rattle.std.proofs.lemmas.List.{append_assoc, append-nil, take_rest, drop-drop, drop_all, length-drop, length-append, length-take-le, take_at}
 use Rattle.policy_set.specs.Tables.{without}
@@ -19,12 +18,11 @@ length_without i xs h = simp (length-append, length-drop, length-take-le i xs (o
 
 -- the row at i of the first `used` is taken out
 pub removed_front : {X : Type 0} (xs zs post : List X) (used i : ℕ) → i < used → used ≤ length xs
-    → zs ≡ without i (take (used - 0) xs) ++ take 1 (drop i (take (used - 0) xs)) → take (used - 1) (zs ++ post) ≡ without i (take used xs)
+    → zs ≡ without i (take used xs) ++ take 1 (drop i (take used xs)) → take (used - 1) (zs ++ post) ≡ without i (take used xs)
 removed_front {X} xs zs post used i h l e =
     let y = take 1 (drop i (take used xs)) in
     let f : length (take used xs) ≡ used = length-take-le used xs l in
     let n : length (without i (take used xs)) ≡ used - 1 = length_without i (take used xs) (omega arith) ∙ ap (λ m. m - 1) f in
-    let e' : zs ≡ without i (take used xs) ++ y = e ∙ ap (λ m. without i (take m xs) ++ take 1 (drop i (take m xs))) (sub-zero used) in
-    ap (λ (w : List X). take (used - 1) (w ++ post)) e'
+    ap (λ (w : List X). take (used - 1) (w ++ post)) e
     ∙ (ap (take (used - 1)) (append_assoc (without i (take used xs)) y post)
     ∙ take_at (without i (take used xs)) (y ++ post) (used - 1) n)

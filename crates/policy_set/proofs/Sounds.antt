@@ -1,6 +1,7 @@
 -- The invariant of a set, test by test and in words.
-use Rattle.std.proofs.Common.{◌≡◌, ℕ, Bool, true, false, cond, not, ◌&&◌, eqb, Some, None, Option, sym, refl, ap, ◌∙◌, subst}
+use Rattle.std.proofs.Common.{◌≡◌, ℕ, Bool, true, false, not, ◌&&◌, eqb, Some, None, Option, sym, refl, ap, ◌∙◌, subst}
 use Rattle.std.proofs.lemmas.Bool.{eqb-true, eqb-false, eq-eqb, ne_eqb, and_parts, not-true, not_from_false, false≢true}
+use Rattle.std.specs.Bool.{then_some}
 use Rattle.policy.specs.Binding.{value_slots, static_unbound}
 use Rattle.policy.specs.Arity.{Parts}
 use Rattle.policy.specs.declared.template.Template.{Template}
@@ -91,14 +92,14 @@ pub unlinked_slotless : (m : Maps) → Sound m → (k : ℕ) (r : PolicyRow) (t 
 unlinked_slotless m s k r t e f = go (template_at m k) refl
   where
     linked : r.link ≡ true → static_unbound (link_of r) t.slots.bits ≡ true
-    linked h = ap (λ b. static_unbound (cond b (Some r.id) None) t.slots.bits) h
+    linked h = ap (λ b. static_unbound (then_some b r.id) t.slots.bits) h
 
     go : (o : Option Template) → template_at m k ≡ o → static_unbound (link_of r) t.slots.bits ≡ true
     go None g = linked (s.link k r g e).0
     go (Some u) g =
         let h = s.static k u r g e in
         let v : u ≡ t = some_same u t (sym g ∙ (sym (ap (template_at m) h.0) ∙ f)) in
-        ap (λ b. static_unbound (cond b (Some r.id) None) t.slots.bits) h.1 ∙ eq-eqb t.slots.bits 0 (ap (λ (w : Template). w.slots.bits) (sym v) ∙ h.2)
+        ap (λ b. static_unbound (then_some b r.id) t.slots.bits) h.1 ∙ eq-eqb t.slots.bits 0 (ap (λ (w : Template). w.slots.bits) (sym v) ∙ h.2)
 
 -- a policy in force has a row
 pub row_of : (m : Maps) (k : ℕ) (p : Parts) → Some p ≡ in_force m k → (r : PolicyRow) × (row_at m k ≡ Some r)

@@ -1,8 +1,9 @@
 -- Validation: the test for action types, the mask, and the law.
-use Rattle.std.proofs.Common.{◌≡◌, ℕ, zero, suc, ◌+◌, ◌*◌, ◌%◌, ◌^◌, ◌<◌, ◌≤◌, Bool, true, false, cond, eqb, ltb, List, [], ◌∷◌, length, get_or, drop, Some, None, Ok, Err, Option, Result, sym, refl, ap, ◌∙◌, one-mul, pow-suc, add-one, arith, pow_pos, shl_exact, ltb-false, ltb-true, lt-ltb, eqb-true}
-use lib.Bits.{bit_or, or_shifted_r}
+use Rattle.std.proofs.Common.{◌≡◌, ℕ, zero, suc, ◌+◌, ◌*◌, ◌%◌, ◌^◌, ◌<◌, ◌≤◌, Bool, true, false, cond, not, eqb, ltb, List, [], ◌∷◌, length, get_or, drop, Some, None, Ok, Err, Option, Result, sym, refl, ap, ◌∙◌, one-mul, pow-suc, add-one, arith, pow_pos, shl_exact, ltb-false, ltb-true, lt-ltb, eqb-true}
+use lib.Bits.{bit_and, bit_or, or_shifted_r}
 use borrow.Author.Tests.{clash}
 use Rattle.std.proofs.lemmas.Bool.Decides.{same_from_decides}
+use Rattle.std.specs.Result.{result_unwrap_or}
 use Rattle.std.proofs.lemmas.List.{at_drop_more}
 use Rattle.refusals.specs.declared.slots.SlotId.{SlotId}
 use Rattle.refusals.specs.declared.refusal.TemplateValidationError.{TemplateValidationError}
@@ -14,23 +15,26 @@ use Rattle.names.specs.Names.{Told}
 use Rattle.names.specs.TypeName.{IsAction, is_action}
 use Rattle.names.specs.declared.entity.EntityUID.{EntityUID}
 use Rattle.names.proofs.Actions.{action_decides}
-use Rattle.clauses.specs.Book.{Clause, Lawful}
+use Rattle.clauses.specs.Book.{Clause, Lawful, at, slots_of}
+use Rattle.policy.specs.Slots.{has, slots_where, first_slot}
+use Rattle.policy.specs.Mentions.{clause_has}
+use Rattle.refusals.proofs.Sets.{has_where}
+use Rattle.refusals.specs.declared.slots.SlotSet.{SlotSet}
+use Rattle.refusals.specs.declared.slots.SlotId.TheVariants.{Principal, Resource}
 use Rattle.policy.specs.Scopes.{actions_of}
 use Rattle.policy.specs.declared.template.Template.{Template}
-use Rattle.policy_set.specs.Validation.{action_typed, mask_from, clause_slots, first_slot, mask_fault, slot_fault, template_fault, check_answer, fault_or, try_validate_answer, AllActions, AllValid, AcceptsValid}
+use Rattle.policy_set.specs.Validation.{action_typed, mask_from, clause_slots, mask_fault, slot_fault, template_fault, check_answer, fault_or, try_validate_answer, AllActions, AllValid, AcceptsValid}
 
--- What the name book tells of an entity's type.
-pub told_action : (texts : List (List ℕ)) (e : EntityUID) (answer : Result Bool Refusal) (said : Bool) → Told texts e.ty IsAction answer
-    → answer ≡ Ok said → said ≡ action_typed texts e
-told_action texts e answer said t a = by (ltb e.ty (length texts)) refl where
-  by : (b : Bool) → ltb e.ty (length texts) ≡ b → said ≡ cond b (is_action (get_or texts e.ty [])) false
+-- What the name book tells of an entity's type, where it tells it.
+pub told_action : (texts : List (List ℕ)) (e : EntityUID) (answer : Result Bool Refusal) → Told texts e.ty IsAction answer
+    → result_unwrap_or answer false ≡ action_typed texts e
+told_action texts e answer t = by (ltb e.ty (length texts)) refl where
+  by : (b : Bool) → ltb e.ty (length texts) ≡ b → result_unwrap_or answer false ≡ cond b (is_action (get_or texts e.ty [])) false
   by true h =
       let k = t.known (ltb-true e.ty (length texts) h) in
-      let same : said ≡ k.0 = (let p : answer ≡ Ok k.0 = k.1 in cc) in
-      same ∙ same_from_decides k.0 (is_action (get_or texts e.ty [])) k.2 (action_decides (get_or texts e.ty []))
-  by false h =
-      let u = t.unknown (ltb-false e.ty (length texts) h) in
-      let z : ◌≡◌ {A = ℕ} 0 1 = cc in elim (let w : ⊥ = omega arith in w) [ ]
+      ap (λ (r : Result Bool Refusal). result_unwrap_or r false) k.1
+      ∙ same_from_decides k.0 (is_action (get_or texts e.ty [])) k.2 (action_decides (get_or texts e.ty []))
+  by false h = ap (λ (r : Result Bool Refusal). result_unwrap_or r false) (t.unknown (ltb-false e.ty (length texts) h))
 
 -- One bit more, above those of the mask.
 raised : (mask k : ℕ) → mask < 2 ^ k → k < 8 → bit_or mask ((1 * 2 ^ k) % 256) ≡ mask + 2 ^ k
@@ -72,13 +76,34 @@ masked_other texts actions k mask next d h l t n inv =
     let e = doubled k in
     (omega (arith, inv.0), masked_more texts actions k mask next d h (omega arith) inv.1)
 
+-- The slot of the lowest bit, the principal's before the resource's.
+abbrev first_bit : ℕ → Option SlotId
+first_bit bits = cond (eqb (bit_and bits 1) 0) (cond (eqb (bit_and bits 2) 0) None (Some Resource)) (Some Principal)
+
 -- No slot is first exactly in the empty set.
-first_none : (bits : ℕ) → bits < 4 → first_slot bits ≡ None → bits ≡ 0
+first_none : (bits : ℕ) → bits < 4 → first_bit bits ≡ None → bits ≡ 0
 first_none zero h e = refl
 first_none (suc zero) h e = let z : ◌≡◌ {A = ℕ} 0 1 = cc in elim (let w : ⊥ = omega arith in w) [ ]
 first_none (suc (suc zero)) h e = let z : ◌≡◌ {A = ℕ} 0 1 = cc in elim (let w : ⊥ = omega arith in w) [ ]
 first_none (suc (suc (suc zero))) h e = let z : ◌≡◌ {A = ℕ} 0 1 = cc in elim (let w : ⊥ = omega arith in w) [ ]
 first_none (suc (suc (suc (suc n)))) h e = elim (let w : ⊥ = omega arith in w) [ ]
+
+-- The slots of a clause as a set have the same first slot as its bits.
+first_where : (test : SlotId → Bool) → first_slot (slots_where test) ≡ cond (test Principal) (Some Principal) (cond (test Resource) (Some Resource) None)
+first_where test =
+    ap (λ b. cond b (Some Principal) (cond (has Resource (slots_where test)) (Some Resource) None)) (has_where test Principal)
+    ∙ ap (λ b. cond (test Principal) (Some Principal) (cond b (Some Resource) None)) (has_where test Resource)
+
+first_bits : (p r : Bool) → cond (not p) (Some Principal) (cond (not r) (Some Resource) None) ≡ cond p (cond r None (Some Resource)) (Some Principal)
+first_bits true true = refl
+first_bits true false = refl
+first_bits false true = refl
+first_bits false false = refl
+
+first_clause : {C : Type 0} (cs : List (Clause C)) (clause : Option ℕ) → first_slot (slots_where (clause_has cs clause)) ≡ first_bit (clause_slots cs clause)
+first_clause cs None = first_where (clause_has cs None)
+first_clause cs (Some n) =
+    first_where (clause_has cs (Some n)) ∙ first_bits (eqb (bit_and (slots_of (at cs n)) 1) 0) (eqb (bit_and (slots_of (at cs n)) 2) 0)
 
 -- The mask is empty exactly where all are of action types.
 mask_none : (texts : List (List ℕ)) (k : ℕ) (es : List EntityUID) → mask_from texts k es ≡ 0 → AllActions texts es
@@ -116,11 +141,11 @@ slots_small cs law (Some n) = law.bits n
 
 faultless : {C : Type 0} (texts : List (List ℕ)) (cs : List (Clause C)) → Lawful cs → (t : Template) → template_fault texts cs t ≡ None
     → (clause_slots cs t.clause ≡ 0) × AllActions texts (actions_of t.action)
-faultless texts cs law t e = by (first_slot (clause_slots cs t.clause)) refl e where
-  by : (o : Option SlotId) → first_slot (clause_slots cs t.clause) ≡ o → slot_fault o (mask_fault (mask_from texts 0 (actions_of t.action))) ≡ None
+faultless texts cs law t e = by (first_slot (slots_where (clause_has cs t.clause))) refl e where
+  by : (o : Option SlotId) → first_slot (slots_where (clause_has cs t.clause)) ≡ o → slot_fault o (mask_fault (mask_from texts 0 (actions_of t.action))) ≡ None
       → (clause_slots cs t.clause ≡ 0) × AllActions texts (actions_of t.action)
   by None f e = (
-    first_none (clause_slots cs t.clause) (slots_small cs law t.clause) f,
+    first_none (clause_slots cs t.clause) (slots_small cs law t.clause) (sym (first_clause cs t.clause) ∙ f),
     mask_none texts 0 (actions_of t.action) (mask_fault_none (mask_from texts 0 (actions_of t.action)) e),
   )
   by (Some s) f e = let z : ◌≡◌ {A = ℕ} 0 1 = cc in elim (let w : ⊥ = omega arith in w) [ ]
@@ -128,7 +153,7 @@ faultless texts cs law t e = by (first_slot (clause_slots cs t.clause)) refl e w
 fault_none : {C : Type 0} (texts : List (List ℕ)) (cs : List (Clause C)) (t : Template) → clause_slots cs t.clause ≡ 0
     → AllActions texts (actions_of t.action) → template_fault texts cs t ≡ None
 fault_none texts cs t s a =
-    ap (λ (n : ℕ). slot_fault (first_slot n) (mask_fault (mask_from texts 0 (actions_of t.action)))) s
+    ap (λ o. slot_fault o (mask_fault (mask_from texts 0 (actions_of t.action)))) (first_clause cs t.clause ∙ ap first_bit s)
     ∙ ap mask_fault (none_mask texts 0 (actions_of t.action) a)
 
 valid_of : {C : Type 0} (texts : List (List ℕ)) (cs : List (Clause C)) → Lawful cs → (ts : List Template) → try_validate_answer texts cs ts ≡ Ok tt

@@ -13,7 +13,7 @@ use Rattle.policy.specs.declared.values.SlotEnv.{SlotEnv}
 use Rattle.policy.specs.declared.template.Template.{Template}
 use Rattle.policy_set.specs.declared.rows.PolicyRow.{PolicyRow}
 use Rattle.policy_set.specs.declared.rows.Member.{Member}
-use Rattle.policy_set.specs.Tables.{lookup, erase, moved_last, has_room}
+use Rattle.policy_set.specs.Tables.{erase, moved_last, or_inserted, has_room}
 use Rattle.policy_set.specs.Rows.{template_id, policy_id, member_id}
 use Rattle.policy_set.specs.Maps.{Maps, template_at, row_at, passes, in_force, bound}
 use Rattle.policy_set.specs.Sound.{has_slots, member}
@@ -64,14 +64,16 @@ get_template_answer names m id = and_then (names_known names (id ∷ [])) (Ok (t
 abbrev pub slots_cached : {C : Type 0} → List (Clause C) → Template → Result (Unit {0}) Refusal
 slots_cached cs t = refuse_if (not (t.slots.bits == (condition_slots cs t).bits)) (SlotCacheMismatch t.id)
 
+-- What a template and a static body are refused for alike: 1 and 2, 9 and 10.
+abbrev pub enter_answer : {C : Type 0} → ℕ → List (Clause C) → Maps → Template → Result (Unit {0}) Refusal
+enter_answer names cs m t = and_then (template_known names cs t) (and_then (slots_cached cs t) (refuse_if (bound m t.id) (Occupied t.id)))
+
 -- `add_template`: 1 and 2, 9, 10, 25 and 27.
 abbrev pub add_template_answer : {C : Type 0} → ℕ → List (Clause C) → Maps → Template → Result (Unit {0}) Refusal
 add_template_answer names cs m t =
-    and_then (template_known names cs t)
-    (and_then (slots_cached cs t)
-    (and_then (refuse_if (bound m t.id) (Occupied t.id))
+    and_then (enter_answer names cs m t)
     (and_then (refuse_if (not (has_slots t)) (Slotless t.id))
-    (refuse_if (not (has_room 64 m.templates)) (Full Templates)))))
+    (refuse_if (not (has_room 64 m.templates)) (Full Templates)))
 
 -- The maps with one template more, last among the templates.
 abbrev pub with_template : Template → Maps → Maps
@@ -91,11 +93,9 @@ with_policy r m = record {
 -- `add_static`: 1 and 2, 9, 10 and 27.
 abbrev pub add_static_answer : {C : Type 0} → ℕ → List (Clause C) → Maps → Template → Result (Unit {0}) Refusal
 add_static_answer names cs m t =
-    and_then (template_known names cs t)
-    (and_then (slots_cached cs t)
-    (and_then (refuse_if (bound m t.id) (Occupied t.id))
+    and_then (enter_answer names cs m t)
     (and_then (refuse_if (not (has_room 64 m.templates)) (Full Templates))
-    (refuse_if (not (has_room 256 m.policies)) (Full Policies)))))
+    (refuse_if (not (has_room 256 m.policies)) (Full Policies)))
 
 -- The policy that a static policy is.
 abbrev pub static_parts : Template → Parts
@@ -141,12 +141,9 @@ add_answer names cs same m p =
     (and_then (link_fits m p.template p.link)
     (rows_fit m p.template)))))
 
--- A template that is there keeps its record and its place; a new one goes last.
-abbrev pub or_inserted : Template → List Template → List Template
-or_inserted t ts = cond (is_some (lookup template_id t.id ts)) ts (ts ++ t ∷ [])
-
+-- The maps with a template, last among the templates where its id is new.
 abbrev pub with_or_inserted : Template → Maps → Maps
-with_or_inserted t m = record { templates = or_inserted t m.templates; policies = m.policies; members = m.members }
+with_or_inserted t m = record { templates = or_inserted template_id t m.templates; policies = m.policies; members = m.members }
 
 abbrev pub add_after : {C : Type 0} → ℕ → List (Clause C) → (ℕ → ℕ → Bool) → Maps → Policy → Maps
 add_after names cs same m p = if_accepted (add_answer names cs same m p) (with_policy (row_for (parts p)) (with_or_inserted p.template m)) m

@@ -1,8 +1,9 @@
 -- Choosing new ids: `policy` and a decimal number, from a counter that is raised past every try.
-use Rattle.std.specs.Prelude.{◌≡◌, ℕ, zero, suc, ◌+◌, ◌-◌, ◌<◌, ◌≤◌, Bool, cond, not, ◌||◌, List, [], ◌∷◌, ◌++◌, length, is_some, Some, None, codes, decimal, Option, nat_lt, slice_index_or}
+use Rattle.std.specs.Prelude.{◌≡◌, ℕ, zero, suc, ◌+◌, ◌-◌, ◌<◌, ◌≤◌, Bool, cond, not, ◌||◌, List, [], ◌∷◌, ◌++◌, length, is_some, Some, None, codes, decimal, Option, nat_lt, slice_index_or, unwrap_or}
 use Rattle.names.specs.Names.{Limits, number_of, name_after}
 use Rattle.policy_set.specs.declared.rows.Renaming.{Renaming}
 use Rattle.policy_set.specs.declared.merge.attempt.Try.{Try}
+use Rattle.policy_set.specs.declared.merge.plan.Plan.{Plan}
 use Rattle.policy_set.specs.Tables.{one_if, lookup}
 use Rattle.policy_set.specs.Maps.{Maps, bound}
 use Rattle.policy_set.specs.Merge.{new_id}
@@ -16,14 +17,10 @@ abbrev pub candidates : List ℕ → List (List ℕ)
 candidates [] = []
 candidates (c ∷ cs) = candidate c ∷ candidates cs
 
-abbrev pub number_or : ℕ → Option ℕ → ℕ
-number_or next None = next
-number_or next (Some n) = n
-
 -- One try: a text of the book counts under its number, any other under the one that it would get after so many new texts.
 abbrev pub attempt : List (List ℕ) → ℕ → ℕ → Try
 attempt texts fresh c = record {
-  name = number_or (length texts + fresh) (number_of (candidate c) texts);
+  name = unwrap_or (number_of (candidate c) texts) (length texts + fresh);
   counter = c + 1;
   fresh = fresh + one_if (not (is_some (number_of (candidate c) texts)));
 }
@@ -58,9 +55,9 @@ choose texts taken limit fresh c (i ∷ is) =
     ]
 
 -- The pairs, where every id got a new one.
-abbrev pub told : Option ℕ → List Renaming → Option (List Renaming)
-told (Some fresh) ps = Some ps
-told None ps = None
+abbrev pub told : Option Plan → Option (List Renaming)
+told (Some p) = Some p.pairs.items
+told None = None
 
 -- The counter of a try whose text is new.
 abbrev pub new_text : ℕ → Try → List ℕ

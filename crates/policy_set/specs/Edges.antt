@@ -1,66 +1,25 @@
 -- The edge cases: of conditions, of sealed texts, of validation, of binding and of linking.
-use Rattle.std.specs.Prelude.{◌≡◌, ℕ, true, false, List, [], ◌∷◌, length, Some, None, Ok, Err, codes, Option, Result, refl}
+use Rattle.std.specs.Prelude.{◌≡◌, ℕ, true, List, [], ◌∷◌, length, Some, None, codes, refl}
 use Rattle.std.proofs.Common.{lit≤}
-use Rattle.refusals.specs.Refusals.{number, values}
 use Rattle.refusals.specs.declared.slots.SlotId.TheVariants as slot
-use Rattle.refusals.specs.declared.refusal.Refusal.{Refusal}
 use Rattle.names.specs.declared.entity.EntityUID.{EntityUID}
-use Rattle.clauses.specs.Book.{Clause}
 use Rattle.clauses.specs.Sealed.{text_slots}
-use Rattle.clauses.specs.Tree.{written}
-use Rattle.policy.specs.declared.constraint.Effect.TheVariants.{Permit}
 use Rattle.policy.specs.declared.constraint.EntityReference.TheVariants.{EUID, Slot}
-use Rattle.policy.specs.declared.constraint.PrincipalOrResourceConstraint.{PrincipalOrResourceConstraint}
 use Rattle.policy.specs.declared.constraint.PrincipalOrResourceConstraint.TheVariants as scope
 use Rattle.policy.specs.declared.action.ActionList.{ActionList}
-use Rattle.policy.specs.declared.action.ActionConstraint.{ActionConstraint}
-use Rattle.policy.specs.declared.action.ActionConstraint.TheVariants as action
-use Rattle.policy.specs.declared.template.Template.{Template}
-use Rattle.policy.specs.declared.node.ConditionNode.{ConditionNode}
+use Rattle.policy.specs.declared.action.ActionIn.TheVariants as action
 use Rattle.policy.specs.declared.node.ConditionNode.TheVariants as node
+use Rattle.policy.specs.Edges.{one_clause, someone, eight, slotless, nodes, refusal_of}
 use Rattle.policy.specs.Slots.{slots_where, slot_equal}
-use Rattle.policy.specs.Condition.{condition_tree}
 use Rattle.policy.specs.Arity.{bindable}
 use Rattle.policy.specs.declared.values.SlotEnv.{SlotEnv}
 use Rattle.policy_set.specs.Maps.{Maps}
 use Rattle.policy_set.specs.Answers.{empty, add_static_after, link_answer}
 use Rattle.policy_set.specs.Validation.{try_validate_answer}
 
--- A book of one clause, which has a slot of neither kind and is no constant.
-abbrev one_clause : List (Clause ℕ)
-one_clause = record { content = 0; slots = 0; constant = None } ∷ []
-
--- An entity.
-abbrev someone : EntityUID
-someone = record { ty = 1; eid = 2 }
-
 -- What stands past the last action of a list.
 abbrev blank_entity : EntityUID
 blank_entity = record { ty = 0; eid = 0 }
-
--- Eight actions.
-abbrev eight : ActionList
-eight = record {
-  items = someone ∷ someone ∷ someone ∷ someone ∷ someone ∷ someone ∷ someone ∷ someone ∷ [];
-  count = 8;
-  whole = refl;
-  few = lit≤ tt;
-  padded = refl;
-}
-
--- A template with these scopes and this clause, and no slots.
-abbrev slotless : PrincipalOrResourceConstraint → ActionConstraint → PrincipalOrResourceConstraint → Option ℕ → Template
-slotless principal act resource clause =
-    record { id = 0; effect = Permit; principal = principal; action = act; resource = resource; clause = clause; slots = slots_where (λ _. false) }
-
--- The nodes of the condition of a template with these scopes and this clause.
-abbrev nodes : PrincipalOrResourceConstraint → ActionConstraint → PrincipalOrResourceConstraint → Option ℕ → List ConditionNode
-nodes principal act resource clause = written (condition_tree one_clause (slotless principal act resource clause))
-
--- The number and the values of a refusal.
-abbrev refusal_of : {X : Type 0} → Result X Refusal → Option (ℕ × List ℕ)
-refusal_of (Ok x) = None
-refusal_of (Err e) = Some (number e, values e)
 
 -- A name book with the id 0, an entity's id 1 and three types.
 abbrev book : List (List ℕ)

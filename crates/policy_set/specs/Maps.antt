@@ -1,9 +1,11 @@
 -- The three maps of a policy set, and what an id names.
-use Rattle.std.specs.Prelude.{ℕ, Bool, false, cond, ◌||◌, List, is_some, Some, None, Option}
+use Rattle.std.specs.Prelude.{ℕ, Bool, false, ◌||◌, List, is_some, Some, None, Option}
+use Rattle.std.specs.Bool.{then_some}
+use Rattle.std.specs.Option.{option_map}
 use Rattle.std.proofs.Common.{lit<}
 use Rattle.policy.specs.declared.constraint.Effect.TheVariants.{Permit}
 use Rattle.policy.specs.declared.constraint.PrincipalOrResourceConstraint.TheVariants as scope
-use Rattle.policy.specs.declared.action.ActionConstraint.TheVariants as action
+use Rattle.policy.specs.declared.action.ActionIn.TheVariants as action
 use Rattle.policy.specs.declared.template.Template.{Template}
 use Rattle.policy.specs.Arity.{Parts}
 use Rattle.policy_set.specs.declared.rows.PolicyRow.{PolicyRow}
@@ -32,8 +34,7 @@ member_at m k = lookup member_id k m.members
 
 -- What may be there, changed.
 abbrev pub changed : {X Y : Type 0} → (X → Y) → Option X → Option Y
-changed f None = None
-changed f (Some x) = Some (f x)
+changed f o = option_map f o
 
 -- A test of what may be there.
 abbrev pub passes : {X : Type 0} → (X → Bool) → Option X → Bool
@@ -59,7 +60,7 @@ present (Some t) = t
 
 -- The link id of a row.
 abbrev pub link_of : PolicyRow → Option ℕ
-link_of r = cond r.link (Some r.id) None
+link_of r = then_some r.link r.id
 
 -- The policy of a row, with its template whole.
 abbrev pub whole : Maps → PolicyRow → Parts

@@ -11,6 +11,7 @@ use Rattle.policy_set.specs.Rows.{template_id, policy_id, member_id}
 use Rattle.policy_set.specs.Maps.{Maps, template_at, row_at, changed, in_force, Thing}
 use Rattle.policy_set.specs.Maps.Thing.{nothing, template, policy}
 use Rattle.policy_set.specs.Sound.{has_slots}
+use Rattle.policy_set.specs.Answers.{other_template}
 
 -- Two policies are equal when their templates, link ids and values are. Clauses are compared by `same`, here and below.
 abbrev pub parts_equal : (ℕ → ℕ → Bool) → Parts → Parts → Bool
@@ -35,10 +36,6 @@ abbrev pub unequal : {X : Type 0} → (X → X → Bool) → Option X → Option
 unequal equal None b = false
 unequal equal (Some a) None = false
 unequal equal (Some a) (Some b) = not (equal a b)
-
--- An unequal template is live under the template's id.
-abbrev pub unequal_template : (ℕ → ℕ → Bool) → Maps → Template → Bool
-unequal_template same live t = unequal (template_equal same) (template_at live t.id) (Some t)
 
 -- Unequal policies are in force under the policy's id.
 abbrev pub unequal_policy : (ℕ → ℕ → Bool) → Maps → Maps → PolicyRow → Bool
@@ -73,7 +70,7 @@ gathered same live incoming =
     gather policy_id (link_on_template live)
     (gather template_id (template_on_policy live)
     (gather policy_id (unequal_policy same live incoming)
-    (gather template_id (unequal_template same live) [] incoming.templates)
+    (gather template_id (other_template same live) [] incoming.templates)
     incoming.policies)
     incoming.templates)
     incoming.policies

@@ -1,5 +1,5 @@
 -- What `merge_policyset` answers, and what it leaves of the set, the buffer and the book.
-use Rattle.std.specs.Prelude.{◌≡◌, ℕ, ◌+◌, ◌<◌, Bool, true, false, cond, not, ◌&&◌, List, ◌++◌, length, take, drop, Some, None, Ok, Err, Option, Result, nat_lt, slice_index}
+use Rattle.std.specs.Prelude.{◌≡◌, ℕ, ◌+◌, ◌<◌, ◌≤◌, Bool, true, false, cond, not, ◌&&◌, List, ◌++◌, length, drop, Some, None, Ok, Err, Option, Result, nat_lt, slice_index}
 use Rattle.refusals.specs.declared.refusal.Refusal.{Refusal}
 use Rattle.refusals.specs.declared.refusal.Refusal.TheVariants.{BookFull, Occupied, ShortBuffer, Full}
 use Rattle.refusals.specs.declared.refusal.Table.TheVariants.{Templates, Policies}
@@ -9,6 +9,7 @@ use Rattle.policy_set.specs.declared.rows.Renaming.{Renaming}
 use Rattle.policy_set.specs.declared.merge.plan.Plan.{Plan}
 use Rattle.policy_set.specs.Rows.{template_id, policy_id}
 use Rattle.policy_set.specs.Maps.{Maps}
+use Rattle.policy_set.specs.Sound.{NamesOne, Valued, Scoped, SameMembers}
 use Rattle.policy_set.specs.Answers.{refuse_if}
 use Rattle.policy_set.specs.Merge.{gathered, final, merged, rows_more}
 use Rattle.policy_set.specs.Choice.{candidates, choose, new_texts, taken_by}
@@ -65,9 +66,19 @@ merge_texts (Ok pairs) texts same live incoming = texts ++ candidates (new_texts
 merge_texts (Err e) texts same live incoming = texts
 
 -- The pairs that a plan has found.
-abbrev pub planned : Result Plan Refusal → List Renaming → Result (List Renaming) Refusal
-planned (Ok p) pairs = Ok (take p.pairs pairs)
-planned (Err e) pairs = Err e
+abbrev pub planned : Result Plan Refusal → Result (List Renaming) Refusal
+planned (Ok p) = Ok p.pairs.items
+planned (Err e) = Err e
+
+-- Maps that a set can hold: each table has room for its rows, and the facts of the set's type hold.
+pub record Holdable (m : Maps) : Type 0 where
+  pub templates : length m.templates ≤ 64
+  pub policies : length m.policies ≤ 256
+  pub members : length m.members ≤ 256
+  pub names_one : NamesOne m
+  pub valued : Valued m
+  pub scoped : Scoped m
+  pub same_members : SameMembers m
 
 -- Both sets bind only names of the book.
 abbrev pub OnBook : List (List ℕ) → Maps → Maps → Type 0

@@ -1,9 +1,7 @@
 -- What every policy set keeps: each id names one thing, and the reverse sets hold exactly the policies.
-use Rattle.std.specs.Prelude.{◌≡◌, ℕ, Bool, true, false, not, ◌&&◌, ◌||◌, Some, None, Option, ◌==◌, ◌≢◌, nat_eq}
-use Rattle.refusals.specs.declared.slots.SlotId.TheVariants.{Principal, Resource}
+use Rattle.std.specs.Prelude.{◌≡◌, ℕ, Bool, true, false, not, ◌&&◌, Some, None, Option, ◌==◌, ◌≢◌, nat_eq}
 use Rattle.policy.specs.Binding.{value_slots}
-use Rattle.policy.specs.Slots.{has}
-use Rattle.policy.specs.Filling.{slotted}
+pub use Rattle.policy.specs.Filled.{scopes_within}
 use Rattle.policy.specs.declared.template.Template.{Template}
 use Rattle.policy_set.specs.declared.rows.PolicyRow.{PolicyRow}
 use Rattle.policy_set.specs.declared.rows.Member.{Member}
@@ -27,11 +25,6 @@ one_thing m (Some t) (Some r) = not r.link && (r.template == t.id && not (has_sl
 abbrev pub valued : Maps → Option PolicyRow → Bool
 valued m None = true
 valued m (Some r) = passes (λ t. nat_eq (value_slots r.values) t.slots.bits) (template_at m r.template)
-
--- The slots that a template's scopes refer to are among its slots.
-abbrev pub scopes_within : Template → Bool
-scopes_within t =
-    (not (slotted t.principal) || has Principal t.slots) && (not (slotted t.resource) || has Resource t.slots)
 
 abbrev pub scoped : Option Template → Bool
 scoped None = true

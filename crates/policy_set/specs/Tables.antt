@@ -6,15 +6,6 @@ abbrev pub lookup : {X : Type 0} → (X → ℕ) → ℕ → List X → Option X
 lookup key k [] = None
 lookup key k (x ∷ xs) = cond (key x == k) (Some x) (lookup key k xs)
 
--- The place, counted from n, of the first row with the key.
-abbrev pub position_from : {X : Type 0} → (X → ℕ) → ℕ → ℕ → List X → Option ℕ
-position_from key k n [] = None
-position_from key k n (x ∷ xs) = cond (key x == k) (Some n) (position_from key k (n + 1) xs)
-
--- The place of the first row with the key.
-abbrev pub position : {X : Type 0} → (X → ℕ) → ℕ → List X → Option ℕ
-position key k xs = position_from key k 0 xs
-
 -- The list without the element at i.
 abbrev pub without : {X : Type 0} → ℕ → List X → List X
 without i xs = take i xs ++ drop (i + 1) xs
@@ -41,6 +32,10 @@ row_last key (Some x) xs = put_last key x xs
 -- The row with the key is moved last.
 abbrev pub moved_last : {X : Type 0} → (X → ℕ) → ℕ → List X → List X
 moved_last key k xs = row_last key (lookup key k xs) xs
+
+-- A row whose key is there keeps its record and its place; a new one goes last.
+abbrev pub or_inserted : {X : Type 0} → (X → ℕ) → X → List X → List X
+or_inserted key x xs = cond (is_some (lookup key (key x) xs)) xs (xs ++ x ∷ [])
 
 -- There is room for one row more.
 abbrev pub has_room : {X : Type 0} → ℕ → List X → Bool

@@ -1,7 +1,6 @@
 -- Validating a set: no clause has a slot, and every action entity is of an action type.
-use Rattle.std.specs.Prelude.{◌≡◌, ℕ, ◌+◌, ◌^◌, ◌<◌, Bool, false, cond, List, [], ◌∷◌, length, Some, None, Ok, Err, Option, Result, ◌==◌, bit_and, nat_lt, slice_index_or}
+use Rattle.std.specs.Prelude.{◌≡◌, ℕ, ◌+◌, ◌^◌, ◌<◌, Bool, false, cond, List, [], ◌∷◌, length, Some, None, Ok, Err, Option, Result, ◌==◌, nat_lt, slice_index_or}
 use Rattle.refusals.specs.declared.slots.SlotId.{SlotId}
-use Rattle.refusals.specs.declared.slots.SlotId.TheVariants.{Principal, Resource}
 use Rattle.refusals.specs.declared.refusal.TemplateValidationError.{TemplateValidationError}
 use Rattle.refusals.specs.declared.refusal.TemplateValidationError.TheVariants.{SlotsInConditionClause, InvalidActionType}
 use Rattle.refusals.specs.declared.refusal.InvalidTemplate.{InvalidTemplate as Invalid}
@@ -11,6 +10,8 @@ use Rattle.names.specs.TypeName.{IsAction, is_action}
 use Rattle.names.specs.declared.entity.EntityUID.{EntityUID}
 use Rattle.clauses.specs.Book.{Clause, at, slots_of}
 use Rattle.policy.specs.Scopes.{actions_of}
+use Rattle.policy.specs.Slots.{first_slot, slots_where}
+use Rattle.policy.specs.Mentions.{clause_has}
 use Rattle.policy.specs.declared.template.Template.{Template}
 
 -- Whether an entity's type is an action type of the name book; a number that the book lacks is none.
@@ -27,10 +28,6 @@ abbrev pub clause_slots : {C : Type 0} → List (Clause C) → Option ℕ → �
 clause_slots cs None = 0
 clause_slots cs (Some n) = slots_of (at cs n)
 
--- The first slot of a set, the principal's before the resource's.
-abbrev pub first_slot : ℕ → Option SlotId
-first_slot bits = cond (bit_and bits 1 == 0) (cond (bit_and bits 2 == 0) None (Some Resource)) (Some Principal)
-
 -- Refusal 23, where a bit of the mask is set.
 abbrev pub mask_fault : ℕ → Option TemplateValidationError
 mask_fault mask = cond (mask == 0) None (Some (InvalidActionType mask))
@@ -42,7 +39,7 @@ slot_fault (Some slot) other = Some (SlotsInConditionClause slot)
 
 -- What a template is refused for, if anything.
 abbrev pub template_fault : {C : Type 0} → List (List ℕ) → List (Clause C) → Template → Option TemplateValidationError
-template_fault texts cs t = slot_fault (first_slot (clause_slots cs t.clause)) (mask_fault (mask_from texts 0 (actions_of t.action)))
+template_fault texts cs t = slot_fault (first_slot (slots_where (clause_has cs t.clause))) (mask_fault (mask_from texts 0 (actions_of t.action)))
 
 -- The fault with the template's id.
 abbrev pub check_answer : ℕ → Option TemplateValidationError → Result (Unit {0}) Invalid

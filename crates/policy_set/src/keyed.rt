@@ -1,6 +1,7 @@
 // Finding, appending, removing, moving last and putting, once for every kind of row.
-ghost use Rattle.std.specs.Prelude.{◌≡◌, ℕ, ◌+◌, ◌-◌, ◌<◌, ◌≤◌, [], ◌∷◌, ◌++◌, length, take, drop, None};
-ghost use Rattle.policy_set.specs.Tables.{position, without, erase, lookup, put_last};
+// The project's rule: finding, appending, removing and moving last are written over slices, so the count stands beside.
+ghost use Rattle.std.specs.Prelude.{◌≡◌, ℕ, ◌+◌, ◌-◌, ◌<◌, ◌≤◌, ◌==◌, [], ◌∷◌, ◌++◌, length, take, drop, position, None};
+ghost use Rattle.policy_set.specs.Tables.{without, erase, lookup, put_last};
 
 use refusals::NameNumber;
 
@@ -15,24 +16,17 @@ pub(crate) trait Keyed {
 
 // The place of the first row with the key.
 pub(crate) fn find<R: Keyed>(rows: &[R], key: NameNumber) -> Option<usize>
-    ensures { result ≡ position R.naming key rows.now }
+    ensures { result ≡ position (λ row. R.naming row == key) rows.now }
 {
-    for i in 0..rows.len() {
-        if rows[i].key() == key {
-            return Some(i);
-        }
-    }
-    None
+    rows.iter().position(|row| row.key() == key)
 }
 
 // The first row with the key.
 pub(crate) fn get<R: Keyed + Copy>(rows: &[R], key: NameNumber) -> Option<R>
     ensures { result ≡ lookup R.naming key rows.now }
 {
-    match find(rows, key) {
-        Some(i) => Some(rows[i]),
-        None => None,
-    }
+    let i = find(rows, key)?;
+    Some(rows[i])
 }
 
 // Moves the row at `i` to the end of the slice; the rows after it move up by one.
@@ -61,13 +55,11 @@ pub(crate) fn remove<R: Keyed + Copy>(rows: &mut [R], used: usize, key: NameNumb
     ensures len { length rows.new ≡ length rows.old }
     ensures after { take result rows.new ≡ erase R.naming key (take used rows.old) }
 {
-    match find(&rows[0..used], key) {
-        Some(i) => {
-            move_last(&mut rows[0..used], i);
-            used - 1
-        }
-        None => used,
-    }
+    let Some(i) = find(&rows[..used], key) else {
+        return used;
+    };
+    move_last(&mut rows[..used], i);
+    used - 1
 }
 
 // Puts the row last among the first `used`, in the place of one with its key. The new count.

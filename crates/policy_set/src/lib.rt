@@ -4,7 +4,6 @@
 pub mod edges;
 pub(crate) mod keyed;
 pub(crate) mod merge;
-pub(crate) mod passing;
 pub mod rows;
 pub mod set;
 pub(crate) mod tables;

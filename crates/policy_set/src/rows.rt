@@ -1,8 +1,11 @@
 // The rows of a set's tables.
 use crate::keyed::Keyed;
+use policy::action::ActionConstraint;
+use policy::constraint::{Effect, PrincipalOrResourceConstraint};
 use policy::template::Template;
 use policy::values::SlotEnv;
 use refusals::NameNumber;
+use refusals::slots::SlotSet;
 
 impl Keyed for Template {
     ghost naming = { λ t. t.id };
@@ -13,6 +16,7 @@ impl Keyed for Template {
 }
 
 // A policy as the set keeps it: its template goes by its id. A static policy has its template's id.
+// `link` is a flag: as an option of the id, the id would stand twice.
 #[derive(Clone, Copy)]
 pub(crate) struct PolicyRow {
     pub id: NameNumber,
@@ -44,8 +48,8 @@ impl Keyed for Member {
     }
 }
 
-// An incoming id and the one that it goes in under.
-#[derive(Clone, Copy)]
+// An incoming id and the one that it goes in under. `Default` only since vectors of fixed capacity fill unused places with it.
+#[derive(Clone, Copy, Default)]
 pub struct Renaming {
     pub old: NameNumber,
     pub new: NameNumber,
@@ -58,3 +62,29 @@ impl Keyed for Renaming {
         self.old
     }
 }
+
+// What stands in the unused places of a table.
+pub(crate) const BLANK_TEMPLATE: Template = Template {
+    id: 0,
+    effect: Effect::Permit,
+    principal: PrincipalOrResourceConstraint::Any,
+    action: ActionConstraint::Any,
+    resource: PrincipalOrResourceConstraint::Any,
+    clause: None,
+    slots: SlotSet { bits: 0 },
+};
+
+pub(crate) const BLANK_POLICY: PolicyRow = PolicyRow {
+    id: 0,
+    template: 0,
+    link: false,
+    values: SlotEnv {
+        principal: None,
+        resource: None,
+    },
+};
+
+pub(crate) const BLANK_MEMBER: Member = Member {
+    policy: 0,
+    template: 0,
+};

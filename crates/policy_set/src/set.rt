@@ -2,7 +2,9 @@
 ghost use Rattle.policy_set.specs.Held.{maps_in};
 ghost use Rattle.policy_set.specs.Sound.{NamesOne, Valued, Scoped, SameMembers};
 
-use crate::tables::{Members, Policies, Templates};
+use crate::rows::{Member, PolicyRow};
+use crate::tables::Table;
+use policy::template::Template;
 
 pub mod additions;
 pub mod links;
@@ -17,9 +19,9 @@ pub mod validate;
 // of the reverse sets, each a policy under its template.
 #[derive(Drop)]
 pub struct PolicySet {
-    templates: Templates,
-    policies: Policies,
-    members: Members,
+    templates: Table<Template, 64>,
+    policies: Table<PolicyRow, 256>,
+    members: Table<Member, 256>,
     ghost names_one: { NamesOne (maps_in templates policies members) },
     ghost valued: { Valued (maps_in templates policies members) },
     ghost scoped: { Scoped (maps_in templates policies members) },

@@ -6,6 +6,7 @@ ghost use Rattle.refusals.specs.declared.refusal.Refusal.TheVariants.{InvalidTem
 use crate::refusal::{InvalidTemplate, Refusal, Table, TemplateValidationError, UnknownName};
 use crate::slots::SlotId;
 
+// Each number below is the product's own, written beside its variant, and not the place of the variant in its enum.
 impl SlotId {
     // The slot's bit in a slot set.
     pub fn bit(self) -> u8

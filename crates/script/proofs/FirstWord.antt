@@ -1,5 +1,9 @@
 -- The first word of a line: what follows the separators at the front, up to the next separator.
-use Rattle.std.proofs.Common.{◌≡◌, ℕ, suc, ◌<◌, ◌≤◌, Bool, true, false, cond, List, [], ◌∷◌, length, take, drop, sym, refl, ap, ◌∙◌, arith}
+use Rattle.std.proofs.Common.{◌≡◌, ℕ, suc, ◌+◌, ◌<◌, ◌≤◌, Bool, true, false, cond, not, ltb, List, [], ◌∷◌, length, take, drop, Some, None, sym, refl, ap, ◌∙◌, arith}
+use Rattle.std.specs.List.{position_or_len}
+use Rattle.std.specs.Option.{unwrap_or}
+use Rattle.std.proofs.lemmas.Bool.Decides.{nat_tests}
+use Rattle.std.proofs.lemmas.List.Recursion.{is_position_or_len}
 use mathlib.Core.Bool.{beq}
 use Rattle.script.specs.Words.{separates, longer, pieces, filled, words}
 use Rattle.script.specs.Front.{front}
@@ -10,6 +14,17 @@ front-within s (b ∷ bs) = by (beq (separates b) s) (front-within s bs) where
   by : (t : Bool) → front s bs ≤ length bs → cond t (suc (front s bs)) 0 ≤ suc (length bs)
   by true h = omega arith
   by false h = omega arith
+
+-- The run ends at the first byte of the other kind.
+pub front_place : (s : Bool) (line : List ℕ) → front s line ≡ position_or_len (λ b. not (beq (separates b) s)) line
+front_place s line = is_position_or_len (front s) (λ b. not (beq (separates b) s)) refl (λ b bs. by (beq (separates b) s) (front s bs)) line where
+  by : (t : Bool) (n : ℕ) → cond t (suc n) 0 ≡ cond (not t) 0 (1 + n)
+  by true n = omega arith
+  by false n = refl
+
+-- The place of the first that passes, or the length where none does.
+pub or_length : (place run length : ℕ) → run ≡ place → run ≤ length → unwrap_or (cond (ltb place length) (Some place) None) length ≡ run
+or_length place run length e h = grind (arith, nat_tests)
 
 -- The pieces of a line, by whether its first byte separates.
 abbrev pieces_by : Bool → ℕ → List ℕ → List (List ℕ)

@@ -1,18 +1,6 @@
 -- What a word spells, read from its front.
-use Rattle.std.proofs.Common.{◌≡◌, ℕ, ◌<◌, ◌≤◌, Bool, cond, List, [], ◌∷◌, ◌++◌, length, get_or, drop, Some, None, Option, sym, refl, ap, ◌∙◌, append_assoc, arith, eq-eqb, ne_eqb}
-use Rattle.script.specs.Percent.{hex_value, hex_byte, coded, put, spelled, decoded}
-
-pub coded-at : (word : List ℕ) → 2 ≤ length word → coded word ≡ hex_byte (hex_value (get_or word 0 0)) (hex_value (get_or word 1 0))
-coded-at [] h = absurd (omega arith)
-coded-at (b ∷ []) h = absurd (omega arith)
-coded-at (b ∷ (c ∷ word)) h = refl
-
--- A word that begins with `%`.
-spelled_percent : (b : ℕ) (word : List ℕ) → b ≡ 37 → spelled (b ∷ word) ≡ put (coded word) (spelled (drop 2 word))
-spelled_percent b [] e = ap (λ (t : Bool). cond t None (Some (b ∷ []))) (eq-eqb b 37 e)
-spelled_percent b (h ∷ []) e = ap (λ (t : Bool). cond t None (put (Some b) (spelled (h ∷ [])))) (eq-eqb b 37 e)
-spelled_percent b (h ∷ (l ∷ word)) e =
-    ap (λ (t : Bool). cond t (put (hex_byte (hex_value h) (hex_value l)) (spelled word)) (put (Some b) (spelled (h ∷ (l ∷ word))))) (eq-eqb b 37 e)
+use Rattle.std.proofs.Common.{◌≡◌, ℕ, ◌<◌, Bool, cond, List, [], ◌∷◌, ◌++◌, length, Some, None, Option, sym, refl, ap, ◌∙◌, append_assoc, arith, ne_eqb}
+use Rattle.script.specs.Percent.{hex_value, hex_byte, put, spelled, decoded}
 
 -- A word that begins with another byte.
 pub spelled_other : (b : ℕ) (word : List ℕ) → (b ≡ 37 → ⊥) → spelled (b ∷ word) ≡ put (Some b) (spelled word)
@@ -20,15 +8,6 @@ spelled_other b [] e = ap (λ (t : Bool). cond t None (Some (b ∷ []))) (ne_eqb
 spelled_other b (h ∷ []) e = ap (λ (t : Bool). cond t None (put (Some b) (spelled (h ∷ [])))) (ne_eqb b 37 e)
 spelled_other b (h ∷ (l ∷ word)) e =
     ap (λ (t : Bool). cond t (put (hex_byte (hex_value h) (hex_value l)) (spelled word)) (put (Some b) (spelled (h ∷ (l ∷ word))))) (ne_eqb b 37 e)
-
--- The same, of a word read by its places.
-pub spelled-coded : (word : List ℕ) → 0 < length word → get_or word 0 0 ≡ 37 → spelled word ≡ put (coded (drop 1 word)) (spelled (drop 2 (drop 1 word)))
-spelled-coded [] h e = absurd (omega arith)
-spelled-coded (b ∷ word) h e = spelled_percent b word e
-
-pub spelled-plain : (word : List ℕ) → 0 < length word → (get_or word 0 0 ≡ 37 → ⊥) → spelled word ≡ put (Some (get_or word 0 0)) (spelled (drop 1 word))
-spelled-plain [] h e = absurd (omega arith)
-spelled-plain (b ∷ word) h e = spelled_other b word e
 
 -- A text that may be there, behind another.
 abbrev pub behind : List ℕ → Option (List ℕ) → Option (List ℕ)

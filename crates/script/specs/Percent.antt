@@ -19,12 +19,6 @@ hex_byte None low = None
 hex_byte (Some high) None = None
 hex_byte (Some high) (Some low) = Some (16 * high + low)
 
--- The byte of the two digits at the front of a word.
-abbrev pub coded : List ℕ → Option ℕ
-coded [] = None
-coded (h ∷ []) = None
-coded (h ∷ (l ∷ word)) = hex_byte (hex_value h) (hex_value l)
-
 -- A byte in front of a text, where both are there.
 abbrev pub put : Option ℕ → Option (List ℕ) → Option (List ℕ)
 put None text = None

@@ -1,6 +1,6 @@
 ghost use Rattle.std.specs.Prelude.{◌≡◌, ◌<◌, length, drop, IfOk, Some as Present, None as Absent, vec_items, MatchOption};
 ghost use Rattle.std.specs.Option.{option_map};
-ghost use Rattle.script.specs.Percent.{hex_value, hex_byte, coded, put, spelled, decoded};
+ghost use Rattle.script.specs.Percent.{hex_value, hex_byte, put, spelled, decoded};
 
 use std::alloc::{AllocError, Global};
 
@@ -8,43 +8,24 @@ use std::alloc::{AllocError, Global};
 fn hex_value(digit: u8) -> Option<u8>
     ensures { result ≡ hex_value digit }
 {
-    match digit {
-        b'0'..=b'9' => Some(digit - b'0'),
-        b'A'..=b'F' => Some(digit - b'A' + 10),
-        b'a'..=b'f' => Some(digit - b'a' + 10),
-        _ => None,
-    }
+    let value = char::from(digit).to_digit(16)?;
+    Some(value as u8)
 }
 
 // The byte that two hexadecimal digits give.
 fn hex_byte(high: u8, low: u8) -> Option<u8>
     ensures { result ≡ hex_byte (hex_value high) (hex_value low) }
 {
-    match (hex_value(high), hex_value(low)) {
-        (Some(high), Some(low)) => Some(16 * high + low),
-        _ => None,
-    }
+    Some(16 * hex_value(high)? + hex_value(low)?)
 }
 
-// The byte of the two hexadecimal digits at the front of a word, and the rest of the word; none without them.
-fn coded_byte(word: &[u8]) -> Option<(u8, &[u8])>
-    ensures { MatchOption result (coded word.now ≡ Absent) (λ first. (coded word.now ≡ Present first.0) × (first.1.now ≡ drop 2 word.now)) }
-{
-    let [high, low, rest @ ..] = word else {
-        return None;
-    };
-    let byte = hex_byte(*high, *low)?;
-    Some((byte, rest))
-}
-
-// The first byte that a word spells, which is not empty, and the rest of the word; none where it is spelled wrong.
+// The first byte that a word spells, and the rest of the word; none where it is spelled wrong or empty.
 fn first_byte(word: &[u8]) -> Option<(u8, &[u8])>
-    requires { 0 < length word.now }
-    ensures { MatchOption result (spelled word.now ≡ Absent) (λ first. (spelled word.now ≡ put (Present first.0) (spelled first.1.now)) × (length first.1.now < length word.now)) }
+    ensures { MatchOption result (0 < length word.now → spelled word.now ≡ Absent) (λ first. (spelled word.now ≡ put (Present first.0) (spelled first.1.now)) × (length first.1.now < length word.now)) }
 {
     match word {
-        [] => None,
-        [b'%', rest @ ..] => coded_byte(rest),
+        [b'%', high, low, rest @ ..] => Some((hex_byte(*high, *low)?, rest)),
+        [] | [b'%', ..] => None,
         [byte, rest @ ..] => Some((*byte, rest)),
     }
 }
@@ -55,25 +36,21 @@ fn spell(heap: Global, word: &[u8]) -> Result<Option<Vec<u8>>, AllocError>
 {
     let mut text = Vec::new(heap);
     let mut rest = word;
-    while !rest.is_empty() {
-        let Some((byte, tail)) = first_byte(rest) else {
-            return Ok(None);
-        };
+    // Each step takes one byte of the word or three, so the rest is carried and no iterator over the bytes serves.
+    while let Some((byte, tail)) = first_byte(rest) {
         text.push(byte)?;
         rest = tail;
     }
-    Ok(Some(text))
+    Ok(rest.is_empty().then_some(text))
 }
 
-// The text of a word; none where the word breaks the encoding.
+// The text of a word; none where the word breaks the encoding: the crate `percent_encoding` would let such a word pass.
 pub fn decode(heap: Global, word: &[u8]) -> Result<Option<Vec<u8>>, AllocError>
     ensures { IfOk result (λ text. option_map vec_items text ≡ decoded word.now) }
 {
-    if word == b"%".as_slice() {
-        return Ok(Some(Vec::new(heap)));
+    match word {
+        [] => Ok(None),
+        [b'%'] => Ok(Some(Vec::new(heap))),
+        _ => spell(heap, word),
     }
-    if word.is_empty() {
-        return Ok(None);
-    }
-    spell(heap, word)
 }

@@ -5,17 +5,9 @@ ghost use Rattle.script.specs.Number.{one_more, continued, numeral, at_most};
 fn with_digit(value: u32, byte: u8, most: u32) -> Option<u32>
     ensures { result ≡ at_most most (one_more (Present value) byte) }
 {
-    match byte {
-        b'0'..=b'9' => {
-            let next = 10 * value as u64 + (byte - b'0') as u64;
-            if next <= most as u64 {
-                Some(next as u32)
-            } else {
-                None
-            }
-        }
-        _ => None,
-    }
+    let digit = char::from(byte).to_digit(10)?;
+    let next = value.checked_mul(10)?.checked_add(digit)?;
+    (next <= most).then_some(next)
 }
 
 // The number of some decimal digits; none where a byte is no digit or the number is above the bound.
@@ -24,10 +16,7 @@ fn read_digits(digits: &[u8], most: u32) -> Option<u32>
 {
     let mut value = 0;
     for byte in digits {
-        let Some(next) = with_digit(value, *byte, most) else {
-            return None;
-        };
-        value = next;
+        value = with_digit(value, *byte, most)?;
     }
     Some(value)
 }

@@ -6,10 +6,6 @@ ghost use Rattle.script.specs.PartsLent.{lent_parts};
 pub fn split_once(word: &[u8], byte: u8) -> Option<(&[u8], &[u8])>
     ensures { lent_parts result ≡ split_once byte word.now }
 {
-    for i in 0..word.len() {
-        if word[i] == byte {
-            return Some((&word[0..i], &word[i + 1..]));
-        }
-    }
-    None
+    let i = word.iter().position(|b| *b == byte)?;
+    Some((&word[..i], &word[i + 1..]))
 }

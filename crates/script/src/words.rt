@@ -1,5 +1,5 @@
-ghost use Rattle.std.specs.Prelude.{◌≡◌, ◌<◌, [], ◌∷◌, length, MatchOption};
-ghost use Rattle.std.specs.Str.{bytes_eq};
+ghost use Rattle.std.specs.Prelude.{◌≡◌, ◌<◌, [], ◌∷◌, length};
+ghost use Rattle.std.specs.Iterator.{YieldsFirstRef, item_count};
 ghost use Rattle.script.specs.Words.{separates, words};
 ghost use Rattle.script.specs.Front.{front};
 ghost use Rattle.script.specs.Cursor.{to_come};
@@ -8,22 +8,16 @@ ghost use Rattle.script.specs.Cursor.{to_come};
 fn is_separator(byte: u8) -> bool
     ensures { result ≡ separates byte }
 {
-    match byte {
-        b' ' | b'\t' | b'\r' => true,
-        _ => false,
-    }
+    matches!(byte, b' ' | b'\t' | b'\r')
 }
 
 // How many bytes at the front are separators, or are none.
 fn run_length(line: &[u8], separators: bool) -> usize
     ensures { result ≡ front separators line.now }
 {
-    for (i, byte) in line.iter().enumerate() {
-        if is_separator(*byte) != separators {
-            return i;
-        }
-    }
-    line.len()
+    line.iter()
+        .position(|byte| is_separator(*byte) != separators)
+        .unwrap_or(line.len())
 }
 
 // The first word of a line, empty where the line has none, and what follows it.
@@ -48,20 +42,19 @@ impl<'a> Words<'a> {
     {
         Words { rest: line }
     }
+}
+
+impl<'a> Iterator for Words<'a> {
+    type Item = &'a [u8];
+
+    ghost next_gives = { YieldsFirstRef to_come };
+
+    ghost remaining = { item_count to_come };
 
     // The next word, which is never empty; none after the last.
-    pub fn next(&mut self) -> Option<&'a [u8]>
-        ensures { MatchOption result ((to_come self.old ≡ []) × (to_come self.new ≡ [])) (λ word. to_come self.old ≡ word.now ∷ to_come self.new) }
-    {
+    fn next(&mut self) -> Option<&'a [u8]> {
         let (word, rest) = first_word(self.rest);
         self.rest = rest;
         if word.is_empty() { None } else { Some(word) }
     }
-}
-
-// Whether a word is spelled so, byte by byte.
-pub fn same_word(word: &[u8], spelling: &[u8]) -> bool
-    ensures { result ≡ bytes_eq word.now spelling.now }
-{
-    word == spelling
 }

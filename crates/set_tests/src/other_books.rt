@@ -1,6 +1,7 @@
 use clauses::sealed::book::SealedBook;
 use names::entity::EntityUID;
 use names::kept::NameBook;
+use policy::bound::Policy;
 use policy::constraint::{Effect, EntityReference, PrincipalOrResourceConstraint};
 use policy::fixed::StaticPolicy;
 use policy::scope::ActionScope;
@@ -21,9 +22,7 @@ struct Books {
 
 // Books with these texts and clauses.
 fn filled(heap: Global, texts: &[&[u8]], clauses: &[&[u8]]) -> Result<Books, Fail> {
-    let Some(mut names) = NameBook::new(heap, 16, 256) else {
-        return Err(Fail::new("no memory"));
-    };
+    let mut names = NameBook::new(heap, 16, 256)?;
     for text in texts {
         let _ = names.name(text)?;
     }
@@ -37,10 +36,6 @@ fn filled(heap: Global, texts: &[&[u8]], clauses: &[&[u8]]) -> Result<Books, Fai
     })
 }
 
-fn any_action() -> ActionScope<'static> {
-    ActionScope::Any
-}
-
 // A template under an id, all any but the principal.
 fn template(
     books: &Books,
@@ -48,13 +43,12 @@ fn template(
     principal: PrincipalOrResourceConstraint,
     clause: Option<u16>,
 ) -> Result<Template, Refusal> {
-    let action = any_action();
     Template::new(
         id,
         Effect::Permit,
         principal,
-        action,
-        PrincipalOrResourceConstraint::Any,
+        ActionScope::Any,
+        ANY,
         clause,
         &books.names,
         &books.clauses,
@@ -75,7 +69,21 @@ fn principal(e: EntityUID) -> SlotEnv {
     }
 }
 
+// A template, a static policy and a link of the template, each with the first clause.
+fn records(home: &Books) -> Result<(Template, StaticPolicy, Policy), Refusal> {
+    let t = template(home, 0, SLOT, Some(0))?;
+    let s = StaticPolicy::new(template(home, 1, ANY, Some(0))?, &home.names, &home.clauses)?;
+    let link = t.link(
+        1,
+        principal(EntityUID { ty: 0, eid: 0 }),
+        &home.names,
+        &home.clauses,
+    )?;
+    Ok((t, s, link))
+}
+
 // An answer as the number of its refusal and the first value; 0 and 0 where it is accepted.
+// Not compared whole: what is handed back may be a policy, which has no derived `==`.
 fn told<T: Drop>(answer: Result<T, Refusal>) -> (u8, usize) {
     match answer {
         Ok(_) => (0, 0),
@@ -130,18 +138,7 @@ fn numbers_of_another_book(rt: HostRuntime) -> Result<(), Fail> {
 fn clauses_of_another_book(rt: HostRuntime) -> Result<(), Fail> {
     let home = filled(rt.alloc(), &[b"t", b"s"], &[b"context.a"])?;
     let away = filled(rt.alloc(), &[b"t", b"s"], &[])?;
-    let t = template(&home, 0, SLOT, Some(0))?;
-    let s = StaticPolicy::new(
-        template(&home, 1, ANY, Some(0))?,
-        &home.names,
-        &home.clauses,
-    )?;
-    let link = t.link(
-        1,
-        principal(EntityUID { ty: 0, eid: 0 }),
-        &home.names,
-        &home.clauses,
-    )?;
+    let (t, s, link) = records(&home)?;
     let mut set = PolicySet::new();
     assert_eq!(rt;
         told(set.add_template(t, &away.names, &away.clauses)),
@@ -157,18 +154,7 @@ fn clauses_of_another_book(rt: HostRuntime) -> Result<(), Fail> {
 fn slots_of_another_book(rt: HostRuntime) -> Result<(), Fail> {
     let home = filled(rt.alloc(), &[b"t", b"s"], &[b"context.a"])?;
     let away = filled(rt.alloc(), &[b"t", b"s"], &[b"?resource == a"])?;
-    let t = template(&home, 0, SLOT, Some(0))?;
-    let s = StaticPolicy::new(
-        template(&home, 1, ANY, Some(0))?,
-        &home.names,
-        &home.clauses,
-    )?;
-    let link = t.link(
-        1,
-        principal(EntityUID { ty: 0, eid: 0 }),
-        &home.names,
-        &home.clauses,
-    )?;
+    let (t, s, link) = records(&home)?;
     let mut set = PolicySet::new();
     assert_eq!(rt;
         told(set.add_template(t, &away.names, &away.clauses)),

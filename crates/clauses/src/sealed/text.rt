@@ -1,54 +1,40 @@
 ghost use Rattle.std.specs.Prelude.{◌≡◌};
 ghost use Rattle.refusals.specs.declared.slots.SlotId.{SlotId as Slot};
-ghost use Rattle.refusals.specs.declared.slots.SlotId.TheVariants.{Principal as PrincipalSlot, Resource as ResourceSlot};
 ghost use Rattle.clauses.specs.Slots.{Tells};
-ghost use Rattle.clauses.specs.Sealed.{spelling, starts, stepped, slot_at_start, slots_seen, text_slots, text_constant, Spells};
+ghost use Rattle.clauses.specs.Sealed.{no_word, stepped, slot_at_start, slots_seen, text_slots, text_constant, Spells};
 
 use crate::sealed::scanner::Scanner;
 use names::type_name::is_word;
 use refusals::slots::{SlotId, SlotSet};
 
-// Whether a text starts with `?principal`, and the word ends there.
-fn starts_with_principal(text: &[u8]) -> bool
-    ensures { result ≡ starts (spelling PrincipalSlot) text.now }
+// Whether a word is over where this text follows.
+fn ends_word(rest: &[u8]) -> bool
+    ensures { result ≡ no_word rest.now }
 {
-    match text {
-        [
-            b'?',
-            b'p',
-            b'r',
-            b'i',
-            b'n',
-            b'c',
-            b'i',
-            b'p',
-            b'a',
-            b'l',
-            after_principal,
-            ..
-        ] if is_word(*after_principal) => false,
-        [
-            b'?',
-            b'p',
-            b'r',
-            b'i',
-            b'n',
-            b'c',
-            b'i',
-            b'p',
-            b'a',
-            b'l',
-            ..
-        ] => true,
-        _ => false,
+    match rest {
+        [after, ..] => !is_word(*after),
+        [] => true,
     }
 }
 
-// Whether a text starts with `?resource`, and the word ends there.
-fn starts_with_resource(text: &[u8]) -> bool
-    ensures { result ≡ starts (spelling ResourceSlot) text.now }
+// The slot that stands at the start of a text.
+fn slot_at_start(text: &[u8]) -> Option<SlotId>
+    ensures { result ≡ slot_at_start text.now }
 {
     match text {
+        [
+            b'?',
+            b'p',
+            b'r',
+            b'i',
+            b'n',
+            b'c',
+            b'i',
+            b'p',
+            b'a',
+            b'l',
+            rest @ ..,
+        ] => { ends_word(rest).then_some(SlotId::Principal) }
         [
             b'?',
             b'r',
@@ -59,25 +45,10 @@ fn starts_with_resource(text: &[u8]) -> bool
             b'r',
             b'c',
             b'e',
-            after_resource,
-            ..
-        ] if is_word(*after_resource) => false,
-        [b'?', b'r', b'e', b's', b'o', b'u', b'r', b'c', b'e', ..] => true,
-        _ => false,
+            rest @ ..,
+        ] => { ends_word(rest).then_some(SlotId::Resource) }
+        _ => None,
     }
-}
-
-// The slot that stands at the start of a text.
-fn slot_at_start(text: &[u8]) -> Option<SlotId>
-    ensures { result ≡ slot_at_start text.now }
-{
-    if starts_with_principal(text) {
-        return Some(SlotId::Principal);
-    }
-    if starts_with_resource(text) {
-        return Some(SlotId::Resource);
-    }
-    None
 }
 
 impl Scanner {
@@ -99,8 +70,8 @@ impl Scanner {
         ensures { result.bits ≡ slots_seen self text.now }
     {
         match (self, slot_at_start(text)) {
-            (Scanner::Plain, Some(slot)) => SlotSet { bits: slot.bit() },
-            _ => SlotSet { bits: 0 },
+            (Scanner::Plain, Some(slot)) => SlotSet::single(slot),
+            _ => SlotSet::empty(),
         }
     }
 }
@@ -111,14 +82,15 @@ pub fn slots_of_text(text: &[u8]) -> SlotSet
     ensures told { (slot : Slot) → Tells result.bits slot (Spells slot text.now) }
 {
     let mut scanner = Scanner::Plain;
-    let mut bits = 0;
+    let mut slots = SlotSet::empty();
     let mut rest = text;
+    // A slot is told by the rest of the text at its place, so the rest is carried and no iterator over the bytes serves.
     while let [byte, tail @ ..] = rest {
-        bits |= scanner.slots_seen(rest).bits;
+        slots = slots.union(scanner.slots_seen(rest));
         scanner.step(*byte);
         rest = tail;
     }
-    SlotSet { bits }
+    slots
 }
 
 // The constant that a sealed text is, if any.

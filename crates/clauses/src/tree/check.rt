@@ -17,8 +17,5 @@ pub fn check_clause(nodes: &[Node], names: &NameBook) -> Result<(), Refusal>
     }
     check_all_names(nodes, names)?;
     check_all_types(nodes, names)?;
-    match check_tree(nodes) {
-        Ok(()) => Ok(()),
-        Err(place) => Err(Refusal::BadClause(place)),
-    }
+    check_tree(nodes).map_err(|place| Refusal::BadClause(place))
 }

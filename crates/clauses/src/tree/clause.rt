@@ -12,8 +12,8 @@ impl Node {
         ensures { result.bits ≡ node_slots self }
     {
         match self {
-            Node::Slot(slot) => SlotSet { bits: slot.bit() },
-            _ => SlotSet { bits: 0 },
+            Node::Slot(slot) => SlotSet::single(slot),
+            _ => SlotSet::empty(),
         }
     }
 }
@@ -23,11 +23,11 @@ pub fn slots_of_tree(nodes: &[Node]) -> SlotSet
     ensures slots { result.bits ≡ tree_slots nodes.now }
     ensures told { (slot : AnySlot) → Tells result.bits slot (Mentions slot nodes.now) }
 {
-    let mut bits = 0;
+    let mut slots = SlotSet::empty();
     for node in nodes {
-        bits |= node.slots().bits;
+        slots = slots.union(node.slots());
     }
-    SlotSet { bits }
+    slots
 }
 
 // The constant that a tree is, if any: that of a lone node.

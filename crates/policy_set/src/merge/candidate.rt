@@ -1,36 +1,34 @@
 // The texts that are tried as new names: `policy` and a decimal number.
-ghost use Rattle.std.specs.Prelude.{◌≡◌, ◌<◌, ◌≤◌, length, drop, decimal};
+ghost use Rattle.std.specs.Prelude.{◌≡◌, ◌+◌, ◌≤◌, ◌++◌, length, decimal};
+ghost use Rattle.arrayvec.specs.ArrayString.{array_string_len};
 ghost use Rattle.policy_set.specs.Choice.{candidate};
 
-// Enough bytes for `policy` and ten digits.
-pub(crate) const LONGEST: usize = 16;
+use arrayvec::ArrayString;
 
-// Writes the decimal digits of a number at the end of the slice; where they begin.
-fn write_decimal(n: u32, text: &mut [u8]) -> usize
-    requires { length text.old ≡ 16 }
-    ensures place { 6 ≤ result }
-    ensures within { result < 16 }
-    ensures after { drop result text.new ≡ decimal n }
+// Enough bytes for `policy` and ten digits.
+const LONGEST: usize = 16;
+
+// A counter's text.
+pub(crate) type Text = ArrayString<LONGEST>;
+
+// Appends the decimal digits of a number. `write!` would do it too, but `write_fmt` promises no `Ok` where the text has room.
+fn push_decimal(text: &mut Text, n: u32)
+    requires { array_string_len text.old + length (decimal n) ≤ 16 }
+    ensures { text.new.bytes ≡ text.old.bytes ++ decimal n }
 {
-    let mut rest = n;
-    let mut start = LONGEST - 1;
-    while rest >= 10 {
-        text[start] = b'0' + (rest % 10) as u8;
-        rest /= 10;
-        start -= 1;
+    if n >= 10 {
+        push_decimal(text, n / 10);
     }
-    text[start] = b'0' + rest as u8;
-    start
+    text.push(char::from(b'0' + (n % 10) as u8));
 }
 
-// Writes the text of a counter at the end of the slice; where it begins.
-pub(crate) fn write_candidate(counter: u32, text: &mut [u8]) -> usize
-    requires { length text.old ≡ 16 }
-    ensures within { result < 16 }
-    ensures after { drop result text.new ≡ candidate counter }
+// The text of a counter.
+pub(crate) fn text_of(counter: u32) -> Text
+    ensures value { result.bytes ≡ candidate counter }
+    ensures short { array_string_len result ≤ 16 }
 {
-    let digits = write_decimal(counter, text);
-    let start = digits - 6;
-    text[start..digits].copy_from_slice(b"policy");
-    start
+    let mut text = Text::new();
+    text.push_str("policy");
+    push_decimal(&mut text, counter);
+    text
 }

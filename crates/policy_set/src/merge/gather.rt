@@ -1,87 +1,66 @@
 // Gathering the ids to rename, and counting the rows that come in as rows more.
-ghost use Rattle.std.specs.Prelude.{◌≡◌, ◌+◌, ◌≤◌, length, take};
-ghost use Rattle.policy_set.specs.Tables.{one_if};
+ghost use Rattle.std.specs.Prelude.{◌≡◌, ◌+◌, ◌<◌, ◌≤◌, Bool, true, length};
+ghost use Rattle.std.specs.Fn.{FnReturnsAt};
+ghost use Rattle.arrayvec.specs.ArrayVec.{array_vec_len};
 ghost use Rattle.policy_set.specs.Merge.{among, noted, gather, is_more, rows_more};
 
-use crate::keyed::{Keyed, find};
-use crate::passing::Test;
+use crate::keyed::{Keyed, get};
+use arrayvec::ArrayVec;
 use refusals::NameNumber;
 
-// Whether an id is among ids.
+// As many ids as four passes over two full tables can note.
+pub(crate) const PLACES: usize = 640;
+
+// Whether an id is among ids: a call of its own, since of a vector's slice the check doesn't find `among`.
 fn contains(ids: &[NameNumber], id: NameNumber) -> bool
     ensures { result ≡ among id ids.now }
 {
-    for i in 0..ids.len() {
-        if ids[i] == id {
-            return true;
+    ids.contains(&id)
+}
+
+// Appends an id, unless it is there.
+fn note_id(ids: &mut ArrayVec<NameNumber, PLACES>, id: NameNumber)
+    requires { array_vec_len ids.old < 640 }
+    ensures { ids.new.items ≡ noted true id ids.old.items }
+{
+    if !contains(ids, id) {
+        ids.push(id);
+    }
+}
+
+// Notes the key of each row that passes the test.
+pub(crate) fn gather_ids<R: Keyed, F: Fn(&R) -> bool>(
+    ids: &mut ArrayVec<NameNumber, PLACES>,
+    rows: &[R],
+    test: F,
+)
+    requires test { F.IsAlwaysCallable test }
+    requires room { array_vec_len ids.old + length rows.now ≤ 640 }
+    ensures few { array_vec_len ids.new ≤ array_vec_len ids.old + length rows.now }
+    ensures after { (asks : R → Bool) → ((x : R) (b : Bool) → FnReturnsAt F.Fn test x b → b ≡ asks x) → ids.new.items ≡ gather R.Keyed.naming asks ids.old.items rows.now }
+{
+    for row in rows {
+        if test(row) {
+            note_id(ids, row.key());
         }
     }
-    false
 }
 
-// Writes an id that is wanted after the first `used`, unless it is among them. The new count.
-fn note_id(ids: &mut [NameNumber], used: usize, id: NameNumber, wanted: bool) -> usize
-    requires used { used ≤ length ids.old }
-    requires room { length (noted wanted id (take used ids.old)) ≤ length ids.old }
-    ensures len { length ids.new ≡ length ids.old }
-    ensures count { result ≤ length ids.old }
-    ensures after { take result ids.new ≡ noted wanted id (take used ids.old) }
+// Whether an incoming row is a row more.
+fn is_more<R: Keyed + Copy>(live: &[R], ids: &[NameNumber], key: NameNumber) -> bool
+    ensures { result ≡ is_more R.naming ids.now live.now key }
 {
-    if !wanted {
-        return used;
-    }
-    if contains(&ids[0..used], id) {
-        return used;
-    }
-    ids[used] = id;
-    used + 1
-}
-
-// Notes the key of each row that passes the test, after the first `used`. The new count.
-pub(crate) fn gather_ids<R: Keyed, T: Test<R>>(
-    ids: &mut [NameNumber],
-    used: usize,
-    rows: &[R],
-    test: &T,
-) -> usize
-    requires used { used ≤ length ids.old }
-    requires room { length (gather R.Keyed.naming (T.Test.asks test.now) (take used ids.old) rows.now) ≤ length ids.old }
-    ensures len { length ids.new ≡ length ids.old }
-    ensures count { result ≤ length ids.old }
-    ensures after { take result ids.new ≡ gather R.Keyed.naming (T.Test.asks test.now) (take used ids.old) rows.now }
-{
-    let mut n = used;
-    for i in 0..rows.len() {
-        let row = &rows[i];
-        let wanted = test.test(row);
-        let id = row.key();
-        n = note_id(ids, n, id, wanted);
-    }
-    n
-}
-
-// 1 for a row that is a row more, else 0.
-fn one_more<R: Keyed>(live: &[R], ids: &[NameNumber], key: NameNumber) -> usize
-    ensures value { result ≡ one_if (is_more R.naming ids.now live.now key) }
-    ensures small { result ≤ 1 }
-{
-    if contains(ids, key) {
-        return 1;
-    }
-    match find(live, key) {
-        Some(_) => 0,
-        None => 1,
-    }
+    contains(ids, key) || get(live, key).is_none()
 }
 
 // How many incoming rows are rows more.
-pub(crate) fn count_more<R: Keyed>(live: &[R], incoming: &[R], ids: &[NameNumber]) -> usize
+pub(crate) fn count_more<R: Keyed + Copy>(live: &[R], incoming: &[R], ids: &[NameNumber]) -> usize
     ensures value { result ≡ rows_more R.naming ids.now live.now incoming.now }
     ensures small { result ≤ length incoming.now }
 {
-    let mut n = 0;
-    for i in 0..incoming.len() {
-        n += one_more(live, ids, incoming[i].key());
-    }
-    n
+    incoming
+        .iter()
+        .map(|row| row.key())
+        .filter(|&key| is_more(live, ids, key))
+        .count()
 }

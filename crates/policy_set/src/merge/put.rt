@@ -12,10 +12,7 @@ use refusals::NameNumber;
 fn final_id(pairs: &[Renaming], id: NameNumber) -> NameNumber
     ensures { result ≡ final pairs.entry.now id }
 {
-    match get(pairs, id) {
-        Some(pair) => pair.new,
-        None => id,
-    }
+    get(pairs, id).map_or(id, |pair| pair.new)
 }
 
 // A row that can go in under other ids.
@@ -33,12 +30,7 @@ impl Renamed for Template {
     fn under(&self, pairs: &[Renaming]) -> Template {
         Template {
             id: final_id(pairs, self.id),
-            effect: self.effect,
-            principal: self.principal,
-            action: self.action,
-            resource: self.resource,
-            clause: self.clause,
-            slots: self.slots,
+            ..*self
         }
     }
 }
@@ -51,8 +43,7 @@ impl Renamed for PolicyRow {
         PolicyRow {
             id: final_id(pairs, self.id),
             template,
-            link: self.link,
-            values: self.values,
+            ..*self
         }
     }
 }
@@ -69,6 +60,7 @@ impl Renamed for Member {
 }
 
 // Puts each incoming row last among the first `used`, under its final ids. The new count.
+// The project's rule: finding, appending, removing and moving last are written over slices, so the count stands beside.
 pub(crate) fn put_all<R: Renamed + Copy>(
     rows: &mut [R],
     used: usize,
@@ -82,9 +74,8 @@ pub(crate) fn put_all<R: Renamed + Copy>(
     ensures after { take result rows.new ≡ put_all R.Keyed.naming (R.Renamed.renamed (final pairs.entry.now)) (take used rows.old) incoming.now }
 {
     let mut n = used;
-    for i in 0..incoming.len() {
-        let row = incoming[i].under(pairs);
-        n = put(rows, n, row);
+    for row in incoming {
+        n = put(rows, n, row.under(pairs));
     }
     n
 }

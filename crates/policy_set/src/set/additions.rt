@@ -1,7 +1,7 @@
 // Adding templates and policies.
 ghost use Rattle.std.specs.Prelude.{◌≡◌, length};
 ghost use Rattle.names.specs.Book.{texts};
-ghost use Rattle.policy_set.specs.Answers.{slots_cached, add_template_answer, add_template_after, add_static_answer, add_static_after};
+ghost use Rattle.policy_set.specs.Answers.{slots_cached, enter_answer, add_template_answer, add_template_after, add_static_answer, add_static_after};
 ghost use Rattle.policy_set.specs.Laws.{TemplateAddition, StaticAddition};
 ghost use Rattle.policy_set.specs.Meaning.{maps_of};
 
@@ -20,14 +20,30 @@ use refusals::refusal::{Refusal, Table};
 pub(crate) fn cached_slots<B: ClauseBook>(t: &Template, clauses: &B) -> Result<(), Refusal>
     ensures { result ≡ slots_cached (B.ClauseBook.listed clauses.now) t.now }
 {
-    if t.slots.bits == condition_slots(t, clauses).bits {
-        Ok(())
-    } else {
-        Err(Refusal::SlotCacheMismatch(t.id))
+    if t.slots.bits != condition_slots(t, clauses).bits {
+        return Err(Refusal::SlotCacheMismatch(t.id));
     }
+    Ok(())
 }
 
 impl PolicySet {
+    // What a template and a static body are refused for alike: refusals 1 and 2, 9 and 10.
+    fn can_enter<B: ClauseBook>(
+        &self,
+        t: &Template,
+        names: &NameBook,
+        clauses: &B,
+    ) -> Result<(), Refusal>
+        ensures { result ≡ enter_answer (length (texts names.now)) (B.ClauseBook.listed clauses.now) (maps_of self.now) t.now }
+    {
+        known_template(t, names.count(), clauses)?;
+        cached_slots(t, clauses)?;
+        if self.is_bound(t.id) {
+            return Err(Refusal::Occupied(t.id));
+        }
+        Ok(())
+    }
+
     // Whether `add_template` accepts, or why it does not.
     fn can_add_template<B: ClauseBook>(
         &self,
@@ -37,11 +53,7 @@ impl PolicySet {
     ) -> Result<(), Refusal>
         ensures { result ≡ add_template_answer (length (texts names.now)) (B.ClauseBook.listed clauses.now) (maps_of self.now) t.now }
     {
-        known_template(t, names.count(), clauses)?;
-        cached_slots(t, clauses)?;
-        if self.is_bound(t.id) {
-            return Err(Refusal::Occupied(t.id));
-        }
+        self.can_enter(t, names, clauses)?;
         if t.slots.bits == 0 {
             return Err(Refusal::Slotless(t.id));
         }
@@ -76,11 +88,7 @@ impl PolicySet {
     ) -> Result<(), Refusal>
         ensures { result ≡ add_static_answer (length (texts names.now)) (B.ClauseBook.listed clauses.now) (maps_of self.now) t.now }
     {
-        known_template(t, names.count(), clauses)?;
-        cached_slots(t, clauses)?;
-        if self.is_bound(t.id) {
-            return Err(Refusal::Occupied(t.id));
-        }
+        self.can_enter(t, names, clauses)?;
         if !self.templates.has_room() {
             return Err(Refusal::Full(Table::Templates));
         }
@@ -107,6 +115,7 @@ impl PolicySet {
             principal: None,
             resource: None,
         };
+        // A method for the last two pushes would owe the set's invariant before the template is there.
         self.templates.push(policy.body);
         self.policies.push(PolicyRow {
             id,

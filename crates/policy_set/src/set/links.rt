@@ -9,7 +9,7 @@ ghost use Rattle.policy_set.specs.Meaning.{maps_of};
 
 use crate::rows::{Member, PolicyRow};
 use crate::set::PolicySet;
-use crate::set::reads::known;
+use clauses::naming::check_name;
 use names::kept::NameBook;
 use policy::binding::linked;
 use policy::bound::Policy;
@@ -28,8 +28,8 @@ fn known_link(
 ) -> Result<(), Refusal>
     ensures { result ≡ names_known (length (texts names.now)) (template ∷ new ∷ values_names values) }
 {
-    known(names, template)?;
-    known(names, new)?;
+    check_name(names, template)?;
+    check_name(names, new)?;
     known_values(names.count(), values)
 }
 
@@ -67,10 +67,9 @@ impl PolicySet {
         ensures { parts_of result ≡ link_answer (length (texts names.now)) (maps_of self.now) template_id new_id values }
     {
         known_link(names, template_id, new_id, values)?;
-        match self.template(template_id) {
-            Some(template) => self.linked(&template, new_id, values),
-            None => Err(Refusal::NoSuchTemplate(template_id)),
-        }
+        let found = self.template(template_id);
+        let template = found.ok_or(Refusal::NoSuchTemplate(template_id))?;
+        self.linked(&template, new_id, values)
     }
 
     // Links a template under a new id; the new policy.

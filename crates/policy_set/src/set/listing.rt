@@ -1,75 +1,21 @@
 // Listings: what stands at a place, counted from 0.
 ghost use Rattle.std.specs.Prelude.{◌≡◌, length};
 ghost use Rattle.names.specs.Book.{texts};
-ghost use Rattle.policy_set.specs.Maps.{changed};
-ghost use Rattle.policy_set.specs.Rows.{template_id};
-ghost use Rattle.policy_set.specs.Sound.{has_slots};
-ghost use Rattle.policy_set.specs.Listing.{any_row, both_ids, is_static, policies_answer, static_policies_answer, templates_answer, all_templates_answer, linked_at, get_linked_policies_answer, ListsPolicies, ListsStatic, ListsTemplates, ListsAllTemplates, ListsLinked};
+ghost use Rattle.policy_set.specs.Listing.{both_ids, policies_answer, static_policies_answer, templates_answer, all_templates_answer, linked_at, get_linked_policies_answer, ListsPolicies, ListsStatic, ListsTemplates, ListsAllTemplates, ListsLinked};
 ghost use Rattle.policy_set.specs.Meaning.{maps_of};
 
-use crate::passing::{Test, nth_passing};
 use crate::rows::PolicyRow;
 use crate::set::PolicySet;
-use crate::set::reads::{Under, known};
+use clauses::naming::check_name;
 use names::kept::NameBook;
-use policy::template::Template;
 use refusals::NameNumber;
 use refusals::refusal::Refusal;
 
-// The policies that are no links.
-#[derive(Clone, Copy)]
-struct Static;
-
-impl Test<PolicyRow> for Static {
-    ghost asks = { λ _ r. is_static r };
-
-    fn test(&self, row: &PolicyRow) -> bool {
-        !row.link
-    }
-}
-
-// The templates that have slots.
-#[derive(Clone, Copy)]
-struct Slotted;
-
-impl Test<Template> for Slotted {
-    ghost asks = { λ _ t. has_slots t };
-
-    fn test(&self, row: &Template) -> bool {
-        row.slots.bits != 0
-    }
-}
-
-// All rows.
-#[derive(Clone, Copy)]
-struct Every;
-
-impl<R> Test<R> for Every {
-    ghost asks = { λ _ x. any_row x };
-
-    fn test(&self, _row: &R) -> bool {
-        true
-    }
-}
-
 // A policy's id and its template's.
-fn ids_of(row: Option<PolicyRow>) -> Option<(NameNumber, NameNumber)>
-    ensures { result ≡ changed both_ids row }
+fn both_ids(row: &PolicyRow) -> (NameNumber, NameNumber)
+    ensures { result ≡ both_ids row.now }
 {
-    match row {
-        Some(row) => Some((row.id, row.template)),
-        None => None,
-    }
-}
-
-// A template's id.
-fn id_of(row: Option<Template>) -> Option<NameNumber>
-    ensures { result ≡ changed template_id row }
-{
-    match row {
-        Some(row) => Some(row.id),
-        None => None,
-    }
+    (row.id, row.template)
 }
 
 impl PolicySet {
@@ -78,7 +24,7 @@ impl PolicySet {
         ensures answer { result ≡ policies_answer (maps_of self.now) place }
         ensures lists { ListsPolicies (maps_of self.now) }
     {
-        ids_of(nth_passing(self.policies.rows(), &Every, place))
+        self.policies.rows().get(place).map(both_ids)
     }
 
     // The policy at a place among the static policies: its id and its template's.
@@ -86,7 +32,12 @@ impl PolicySet {
         ensures answer { result ≡ static_policies_answer (maps_of self.now) place }
         ensures lists { ListsStatic (maps_of self.now) }
     {
-        ids_of(nth_passing(self.policies.rows(), &Static, place))
+        self.policies
+            .rows()
+            .iter()
+            .filter(|row| !row.link)
+            .nth(place)
+            .map(both_ids)
     }
 
     // The template at a place among those with slots.
@@ -94,7 +45,12 @@ impl PolicySet {
         ensures answer { result ≡ templates_answer (maps_of self.now) place }
         ensures lists { ListsTemplates (maps_of self.now) }
     {
-        id_of(nth_passing(self.templates.rows(), &Slotted, place))
+        self.templates
+            .rows()
+            .iter()
+            .filter(|t| t.slots.bits != 0)
+            .nth(place)
+            .map(|t| t.id)
     }
 
     // The template at a place among all, the bodies of static policies among them.
@@ -102,7 +58,7 @@ impl PolicySet {
         ensures answer { result ≡ all_templates_answer (maps_of self.now) place }
         ensures lists { ListsAllTemplates (maps_of self.now) }
     {
-        id_of(nth_passing(self.templates.rows(), &Every, place))
+        self.templates.rows().get(place).map(|t| t.id)
     }
 
     // The policy at a place among those of a template.
@@ -115,31 +71,22 @@ impl PolicySet {
         ensures answer { result ≡ get_linked_policies_answer (length (texts names.now)) (maps_of self.now) id place }
         ensures lists { ListsLinked (maps_of self.now) id }
     {
-        self.linked_policy(id, place, names)
-    }
-
-    fn linked_policy(
-        &self,
-        id: NameNumber,
-        place: usize,
-        names: &NameBook,
-    ) -> Result<Option<NameNumber>, Refusal>
-        ensures { result ≡ get_linked_policies_answer (length (texts names.now)) (maps_of self.now) id place }
-    {
-        known(names, id)?;
-        match self.template(id) {
-            Some(_) => Ok(self.linked_at(id, place)),
-            None => Err(Refusal::MissingTemplate(id)),
+        check_name(names, id)?;
+        if !self.has_template(id) {
+            return Err(Refusal::MissingTemplate(id));
         }
+        Ok(self.linked_at(id, place))
     }
 
     // The policy at a place among the members under a template.
     fn linked_at(&self, template: NameNumber, place: usize) -> Option<NameNumber>
         ensures { result ≡ linked_at (maps_of self.now) template place }
     {
-        match nth_passing(self.members.rows(), &Under(template), place) {
-            Some(row) => Some(row.policy),
-            None => None,
-        }
+        self.members
+            .rows()
+            .iter()
+            .filter(|row| row.template == template)
+            .nth(place)
+            .map(|row| row.policy)
     }
 }

@@ -1,29 +1,25 @@
 // Merging another set into this one: first a plan, which writes nothing of the sets and the book, then the writing.
 ghost use Rattle.std.specs.Prelude.{◌≡◌, ◌≤◌, ◌++◌, length, take, drop, IfOk};
+ghost use Rattle.arrayvec.specs.ArrayVec.{array_vec_len};
 ghost use Rattle.clauses.specs.Book.{same_clause};
 ghost use Rattle.names.specs.Book.{texts as texts_of, limits as limits_of};
 ghost use Rattle.policy_set.specs.Choice.{ReadsBack};
 ghost use Rattle.policy_set.specs.Meaning.{maps_of};
 ghost use Rattle.policy_set.specs.Merge.{gathered, final, merged};
-ghost use Rattle.policy_set.specs.MergeCall.{merge_tests, merge_outcome, planned, news_for, merge_answer, merge_after, merge_buffer, merge_texts, FindsNames};
+ghost use Rattle.policy_set.specs.MergeCall.{merge_tests, merge_outcome, planned, news_for, merge_answer, merge_after, merge_buffer, merge_texts, Holdable, FindsNames};
 ghost use Rattle.policy_set.specs.MergeLaw.{Merging};
-ghost use Rattle.policy_set.specs.Sound.{NamesOne, Valued, Scoped, SameMembers};
 
 use crate::merge::both::Both;
-use crate::merge::choice::choose_names;
-use crate::merge::clash::{LinkOnTemplate, TemplateOnPolicy, UnequalPolicy, UnequalTemplate};
 use crate::merge::enter::{enter_all, text_bytes};
-use crate::merge::gather::{count_more, gather_ids};
+use crate::merge::gather::{PLACES, count_more, gather_ids};
 use crate::merge::plan::Plan;
 use crate::rows::Renaming;
 use crate::set::PolicySet;
+use arrayvec::ArrayVec;
 use clauses::book::ClauseBook;
 use names::kept::NameBook;
 use refusals::NameNumber;
 use refusals::refusal::{Refusal, Table};
-
-// As many ids as four passes over two full tables can note.
-const PLACES: usize = 640;
 
 // Writes the pairs into the first places of the buffer.
 fn hand_out(buffer: &mut [Renaming], pairs: &[Renaming])
@@ -33,119 +29,77 @@ fn hand_out(buffer: &mut [Renaming], pairs: &[Renaming])
     buffer[0..pairs.len()].copy_from_slice(pairs);
 }
 
-impl PolicySet {
-    // The ids to rename, each once, in order. How many there are.
-    fn gather_all<'x, B: ClauseBook>(
-        &'x self,
-        incoming: &'x PolicySet,
-        clauses: &'x B,
-        ids: &mut [NameNumber],
-    ) -> usize
-        requires { length ids.old ≡ 640 }
-        ensures len { length ids.new ≡ 640 }
-        ensures count { result ≤ 640 }
-        ensures after { take result ids.new ≡ gathered (same_clause B.ClauseBook.equal (B.ClauseBook.listed clauses.now)) (maps_of self.now) (maps_of incoming.now) }
+impl<'a> Both<'a> {
+    // The ids to rename, each once, in order.
+    fn gather_all<B: ClauseBook>(&self, clauses: &B) -> ArrayVec<NameNumber, PLACES>
+        ensures few { array_vec_len result ≤ 640 }
+        ensures after { result.items ≡ gathered (same_clause B.ClauseBook.equal (B.ClauseBook.listed clauses.now)) (maps_of self.now.live.now) (maps_of self.now.incoming.now) }
     {
-        let templates = incoming.templates.rows();
-        let policies = incoming.policies.rows();
-        let a = gather_ids(
-            ids,
-            0,
+        let templates = self.incoming.templates.rows();
+        let policies = self.incoming.policies.rows();
+        let mut ids = ArrayVec::new();
+        gather_ids(
+            &mut ids,
             templates,
-            &UnequalTemplate {
-                live: self,
-                clauses,
-            },
+            |row| self.live.has_other_template(row, clauses),
         );
-        let b = gather_ids(
-            ids,
-            a,
+        gather_ids(
+            &mut ids,
             policies,
-            &UnequalPolicy {
-                live: self,
-                incoming,
-                clauses,
-            },
+            |row| self.is_unequal_policy(row, clauses),
         );
-        let c = gather_ids(ids, b, templates, &TemplateOnPolicy { live: self });
-        gather_ids(ids, c, policies, &LinkOnTemplate { live: self })
+        gather_ids(&mut ids, templates, |row| self.is_template_on_policy(row));
+        gather_ids(&mut ids, policies, |row| self.is_link_on_template(row));
+        ids
     }
 
     // Refusals 10, 24 and 27, over the ids to rename.
-    fn can_merge(
-        &self,
-        incoming: &PolicySet,
-        ids: &[NameNumber],
-        rename: bool,
-        room: usize,
-    ) -> Result<(), Refusal>
-        ensures { result ≡ merge_tests (maps_of self.now) (maps_of incoming.now) ids.now rename room }
+    fn can_merge(&self, ids: &[NameNumber], rename: bool, room: usize) -> Result<(), Refusal>
+        ensures { result ≡ merge_tests (maps_of self.now.live.now) (maps_of self.now.incoming.now) ids.now rename room }
     {
-        if !rename && ids.len() > 0 {
+        if !rename && !ids.is_empty() {
             return Err(Refusal::Occupied(ids[0]));
         }
         if room < ids.len() {
             return Err(Refusal::ShortBuffer(ids.len()));
         }
-        let templates = self.templates.rows();
-        if templates.len() + count_more(templates, incoming.templates.rows(), ids) > 64 {
+        let (live, incoming) = (&self.live.templates, &self.incoming.templates);
+        if !live.fits(count_more(live.rows(), incoming.rows(), ids)) {
             return Err(Refusal::Full(Table::Templates));
         }
-        let policies = self.policies.rows();
-        if policies.len() + count_more(policies, incoming.policies.rows(), ids) > 256 {
+        let (live, incoming) = (&self.live.policies, &self.incoming.policies);
+        if !live.fits(count_more(live.rows(), incoming.rows(), ids)) {
             return Err(Refusal::Full(Table::Policies));
         }
         Ok(())
     }
 
     // The new ids and the counters of the new texts, or why there is no merge.
-    fn plan<'x, B: ClauseBook>(
-        &'x self,
-        incoming: &'x PolicySet,
+    fn plan<B: ClauseBook>(
+        &self,
         names: &NameBook,
-        clauses: &'x B,
+        clauses: &B,
         rename: bool,
         room: usize,
-        pairs: &mut [Renaming],
-        news: &mut [u32],
     ) -> Result<Plan, Refusal>
-        requires pairs { length pairs.now ≡ 640 }
-        requires news { length news.old ≡ 640 }
-        ensures count { IfOk result (λ p. (p.pairs ≤ 640) × (p.news ≤ 640)) }
-        ensures value { planned result pairs.exit.now ≡ merge_outcome (limits_of names.now) (texts_of names.now) (same_clause B.ClauseBook.equal (B.ClauseBook.listed clauses.now)) (maps_of self.now) (maps_of incoming.now) rename room }
-        ensures texts { IfOk result (λ p. take p.news news.new ≡ news_for (texts_of names.now) (same_clause B.ClauseBook.equal (B.ClauseBook.listed clauses.now)) (maps_of self.now) (maps_of incoming.now)) }
-        ensures lens { (length pairs.exit.now ≡ 640) × (length news.new ≡ 640) }
+        ensures value { planned result ≡ merge_outcome (limits_of names.now) (texts_of names.now) (same_clause B.ClauseBook.equal (B.ClauseBook.listed clauses.now)) (maps_of self.now.live.now) (maps_of self.now.incoming.now) rename room }
+        ensures texts { IfOk result (λ p. p.news.items ≡ news_for (texts_of names.now) (same_clause B.ClauseBook.equal (B.ClauseBook.listed clauses.now)) (maps_of self.now.live.now) (maps_of self.now.incoming.now)) }
     {
-        let mut ids = [0; PLACES];
-        let n = self.gather_all(incoming, clauses, &mut ids);
-        let gathered = &ids[0..n];
-        self.can_merge(incoming, gathered, rename, room)?;
-        let sets = Both {
-            live: self,
-            incoming,
-        };
-        let Some(fresh) = choose_names(names, &sets, gathered, pairs, news) else {
-            return Err(Refusal::BookFull);
-        };
-        let bytes = text_bytes(&news[0..fresh]);
-        if !names.has_room_for(fresh, bytes) {
+        let ids = self.gather_all(clauses);
+        self.can_merge(&ids, rename, room)?;
+        let plan = self.choose_names(names, &ids).ok_or(Refusal::BookFull)?;
+        let bytes = text_bytes(&plan.news);
+        if !names.has_room_for(plan.news.len(), bytes) {
             return Err(Refusal::BookFull);
         }
-        Ok(Plan {
-            pairs: n,
-            news: fresh,
-        })
+        Ok(plan)
     }
+}
 
+impl PolicySet {
     // Every incoming row goes in under its final ids.
     fn apply(&mut self, incoming: &PolicySet, pairs: &[Renaming])
-        requires templates { length (merged (final pairs.now) (maps_of self.old) (maps_of incoming.now)).templates ≤ 64 }
-        requires policies { length (merged (final pairs.now) (maps_of self.old) (maps_of incoming.now)).policies ≤ 256 }
-        requires members { length (merged (final pairs.now) (maps_of self.old) (maps_of incoming.now)).members ≤ 256 }
-        requires names_one { NamesOne (merged (final pairs.now) (maps_of self.old) (maps_of incoming.now)) }
-        requires valued { Valued (merged (final pairs.now) (maps_of self.old) (maps_of incoming.now)) }
-        requires scoped { Scoped (merged (final pairs.now) (maps_of self.old) (maps_of incoming.now)) }
-        requires same_members { SameMembers (merged (final pairs.now) (maps_of self.old) (maps_of incoming.now)) }
+        requires { Holdable (merged (final pairs.now) (maps_of self.old) (maps_of incoming.now)) }
         ensures { maps_of self.new ≡ merged (final pairs.entry.now) (maps_of self.old) (maps_of incoming.now) }
     {
         self.templates.put_all(&incoming.templates, pairs);
@@ -171,23 +125,15 @@ impl PolicySet {
         ensures new_names { IfOk result (λ n. ReadsBack (texts_of names.new) (take n pairs.exit.now)) }
         ensures finds_names { FindsNames (limits_of names.old) (texts_of names.old) (same_clause B.ClauseBook.equal (B.ClauseBook.listed clauses.now)) (maps_of self.old) (maps_of incoming.now) result }
     {
-        let mut chosen = [Renaming { old: 0, new: 0 }; PLACES];
-        let mut news = [0; PLACES];
         let room = pairs.len();
-        let plan = self.plan(
+        let sets = Both {
+            live: self,
             incoming,
-            names,
-            clauses,
-            rename_duplicates,
-            room,
-            &mut chosen,
-            &mut news,
-        )?;
-        let count = plan.pairs;
-        let fresh = plan.news;
-        self.apply(incoming, &chosen[0..count]);
-        hand_out(pairs, &chosen[0..count]);
-        enter_all(names, &news[0..fresh]);
-        Ok(count)
+        };
+        let plan = sets.plan(names, clauses, rename_duplicates, room)?;
+        self.apply(incoming, &plan.pairs);
+        hand_out(pairs, &plan.pairs);
+        enter_all(names, &plan.news);
+        Ok(plan.pairs.len())
     }
 }

@@ -23,33 +23,30 @@ use refusals::refusal::{Refusal, Table};
 pub(crate) fn id_of(policy: &Policy) -> NameNumber
     ensures { result ≡ id_of (parts policy.now) }
 {
-    match policy.link {
-        Some(id) => id,
-        None => policy.template.id,
-    }
+    policy.link.unwrap_or(policy.template.id)
 }
 
 // The row of a policy.
-fn row_for(policy: &Policy) -> PolicyRow
-    ensures { result ≡ row_for (parts policy.now) }
-{
-    PolicyRow {
-        id: id_of(policy),
-        template: policy.template.id,
-        link: policy.link.is_some(),
-        values: policy.values,
+impl From<&Policy> for PolicyRow {
+    ghost from_gives = { λ policy row. row ≡ row_for (parts policy.now) };
+
+    fn from(policy: &Policy) -> PolicyRow {
+        PolicyRow {
+            id: id_of(policy),
+            template: policy.template.id,
+            link: policy.link.is_some(),
+            values: policy.values,
+        }
     }
 }
 
 impl PolicySet {
     // Whether an unequal template has the template's id.
-    fn has_other_template<B: ClauseBook>(&self, t: &Template, clauses: &B) -> bool
+    pub(crate) fn has_other_template<B: ClauseBook>(&self, t: &Template, clauses: &B) -> bool
         ensures { result ≡ other_template (same_clause B.ClauseBook.equal (B.ClauseBook.listed clauses.now)) (maps_of self.now) t.now }
     {
-        match self.template(t.id) {
-            Some(present) => !templates_equal(&present, t, clauses),
-            None => false,
-        }
+        self.template(t.id)
+            .is_some_and(|present| !templates_equal(&present, t, clauses))
     }
 
     // Refusals 25 and 26 of a link.
@@ -121,7 +118,7 @@ impl PolicySet {
         ensures law { Addition (same_clause B.ClauseBook.equal (B.ClauseBook.listed clauses.now)) (maps_of self.old) (maps_of self.new) (parts policy) result }
     {
         self.can_add(&policy, names, clauses)?;
-        let row = row_for(&policy);
+        let row = PolicyRow::from(&policy);
         self.templates.or_insert(policy.template);
         self.policies.push(row);
         self.members.push(Member {

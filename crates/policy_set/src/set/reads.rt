@@ -1,50 +1,21 @@
 // What a set answers about its templates and policies.
-ghost use Rattle.std.specs.Prelude.{◌≡◌, not, [], ◌∷◌, length, is_some};
+ghost use Rattle.std.specs.Prelude.{◌≡◌, not, [], length, is_some};
 ghost use Rattle.names.specs.Book.{texts};
-ghost use Rattle.policy_set.specs.Maps.{template_at, row_at, bound, link_of, changed, in_force};
-ghost use Rattle.policy_set.specs.Answers.{empty, is_empty, no_rows, is_under, reverse_set, get_answer, get_template_answer};
+ghost use Rattle.policy_set.specs.Maps.{template_at, row_at, bound, changed, in_force};
+ghost use Rattle.policy_set.specs.Answers.{empty, is_empty, no_rows, reverse_set, get_answer, get_template_answer};
 ghost use Rattle.policy_set.specs.Handed.{parts_found};
 ghost use Rattle.policy.specs.Arity.{parts};
-ghost use Rattle.policy.specs.Known.{names_known};
 ghost use Rattle.policy_set.specs.Meaning.{maps_of};
 
-use crate::keyed;
-use crate::passing::{Test, nth_passing};
-use crate::rows::{Member, PolicyRow};
+use crate::rows::{BLANK_MEMBER, BLANK_POLICY, BLANK_TEMPLATE, PolicyRow};
 use crate::set::PolicySet;
-use crate::tables::{Members, Policies, Templates};
+use crate::tables::Table;
+use clauses::naming::check_name;
 use names::kept::NameBook;
 use policy::bound::Policy;
-use policy::known::known_name;
 use policy::template::Template;
 use refusals::NameNumber;
 use refusals::refusal::Refusal;
-
-// Refusal 1 of a name that the book lacks.
-pub(crate) fn known(names: &NameBook, id: NameNumber) -> Result<(), Refusal>
-    ensures { result ≡ names_known (length (texts names.now)) (id ∷ []) }
-{
-    known_name(names.count(), id)
-}
-
-// Asks for the members of a template.
-#[derive(Clone, Copy)]
-pub(crate) struct Under(pub NameNumber);
-
-impl Test<Member> for Under {
-    ghost asks = { λ u. is_under u.0 };
-
-    fn test(&self, row: &Member) -> bool {
-        row.template == self.0
-    }
-}
-
-// The link id of a policy, if it is a link.
-fn link_id(row: &PolicyRow) -> Option<NameNumber>
-    ensures { result ≡ link_of row.now }
-{
-    if row.link { Some(row.id) } else { None }
-}
 
 impl PolicySet {
     // An empty set.
@@ -52,9 +23,9 @@ impl PolicySet {
         ensures { maps_of result ≡ empty }
     {
         PolicySet {
-            templates: Templates::new(),
-            policies: Policies::new(),
-            members: Members::new(),
+            templates: Table::new(BLANK_TEMPLATE),
+            policies: Table::new(BLANK_POLICY),
+            members: Table::new(BLANK_MEMBER),
         }
     }
 
@@ -69,14 +40,14 @@ impl PolicySet {
     pub(crate) fn template(&self, id: NameNumber) -> Option<Template>
         ensures { result ≡ template_at (maps_of self.now) id }
     {
-        keyed::get(self.templates.rows(), id)
+        self.templates.get(id)
     }
 
     // The row of the policy with an id.
     pub(crate) fn row(&self, id: NameNumber) -> Option<PolicyRow>
         ensures { result ≡ row_at (maps_of self.now) id }
     {
-        keyed::get(self.policies.rows(), id)
+        self.policies.get(id)
     }
 
     // Whether an id is a template's.
@@ -104,24 +75,23 @@ impl PolicySet {
     pub(crate) fn has_members(&self, template: NameNumber) -> bool
         ensures { result ≡ not (no_rows (reverse_set template (maps_of self.now))) }
     {
-        nth_passing(self.members.rows(), &Under(template), 0).is_some()
+        self.members
+            .rows()
+            .iter()
+            .any(|row| row.template == template)
     }
 
     // The policy that is in force under an id.
     pub(crate) fn in_force(&self, id: NameNumber) -> Option<Policy>
         ensures { changed parts result ≡ in_force (maps_of self.now) id }
     {
-        let row = match self.row(id) {
-            Some(row) => row,
-            None => return None,
-        };
-        let template = match self.template(row.template) {
-            Some(template) => template,
-            None => unreachable(),
+        let row = self.row(id)?;
+        let Some(template) = self.template(row.template) else {
+            unreachable()
         };
         Some(Policy {
             template,
-            link: link_id(&row),
+            link: row.link.then_some(row.id),
             values: row.values,
         })
     }
@@ -130,7 +100,7 @@ impl PolicySet {
     pub fn get(&self, id: NameNumber, names: &NameBook) -> Result<Option<Policy>, Refusal>
         ensures { parts_found result ≡ get_answer (length (texts names.now)) (maps_of self.now) id }
     {
-        known(names, id)?;
+        check_name(names, id)?;
         Ok(self.in_force(id))
     }
 
@@ -142,7 +112,7 @@ impl PolicySet {
     ) -> Result<Option<Template>, Refusal>
         ensures { result ≡ get_template_answer (length (texts names.now)) (maps_of self.now) id }
     {
-        known(names, id)?;
+        check_name(names, id)?;
         Ok(self.template(id))
     }
 }

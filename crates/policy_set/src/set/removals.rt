@@ -7,7 +7,7 @@ ghost use Rattle.policy_set.specs.Laws.{Removal, TemplateRemoval};
 ghost use Rattle.policy_set.specs.Meaning.{maps_of};
 
 use crate::set::PolicySet;
-use crate::set::reads::known;
+use clauses::naming::check_name;
 use names::kept::NameBook;
 use policy::bound::Policy;
 use policy::template::Template;
@@ -19,14 +19,11 @@ impl PolicySet {
     fn removable_link(&self, id: NameNumber, names: &NameBook) -> Result<Policy, Refusal>
         ensures { parts_of result ≡ unlink_answer (length (texts names.now)) (maps_of self.now) id }
     {
-        known(names, id)?;
+        check_name(names, id)?;
         if self.has_template(id) {
             return Err(Refusal::NotLinkError(id));
         }
-        match self.in_force(id) {
-            Some(policy) => Ok(policy),
-            None => Err(Refusal::UnlinkingError(id)),
-        }
+        self.in_force(id).ok_or(Refusal::UnlinkingError(id))
     }
 
     // Removes a link; the policy that it was.
@@ -47,7 +44,7 @@ impl PolicySet {
         ensures after { maps_of self.new ≡ remove_static_after (length (texts names.now)) (maps_of self.old) id }
         ensures law { Removal (maps_of self.old) (maps_of self.new) id (parts_of result) }
     {
-        known(names, id)?;
+        check_name(names, id)?;
         let Some(policy) = self.in_force(id) else {
             return Err(Refusal::RemovePolicyNoLinkError(id));
         };
@@ -65,13 +62,12 @@ impl PolicySet {
     fn removable_template(&self, id: NameNumber, names: &NameBook) -> Result<Template, Refusal>
         ensures { result ≡ remove_template_answer (length (texts names.now)) (maps_of self.now) id }
     {
-        known(names, id)?;
+        check_name(names, id)?;
         if self.has_policy(id) {
             return Err(Refusal::NotTemplateError(id));
         }
-        let Some(template) = self.template(id) else {
-            return Err(Refusal::RemoveTemplateNoTemplateError(id));
-        };
+        let found = self.template(id);
+        let template = found.ok_or(Refusal::RemoveTemplateNoTemplateError(id))?;
         if self.has_members(id) {
             return Err(Refusal::RemoveTemplateWithLinksError(id));
         }

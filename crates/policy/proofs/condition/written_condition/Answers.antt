@@ -1,9 +1,8 @@
 use Rattle.std.proofs.Common.{◌≡◌, List, [], ◌∷◌, ◌++◌, ap, ◌∙◌, append_assoc}
 use Rattle.clauses.specs.Tree.{Tree, written}
 use Rattle.policy.specs.declared.node.ConditionNode.{ConditionNode}
-use Rattle.policy.specs.declared.nodes.NodeList.{NodeList}
 use Rattle.policy.specs.Condition.{leaf, and_tree, principal_tree, action_tree, resource_tree, clause_node}
-use Rattle.policy.specs.Nodes.{nodes_of, Joins}
+use Rattle.policy.specs.Nodes.{NodeList, Joins}
 use Rattle.policy.proofs.Propers.{Good, good_and, good_principal, good_action, good_resource, good_clause}
 use Rattle.policy.proofs.condition.written_condition.Goals as goal
 
@@ -17,8 +16,8 @@ module _ (p a r : Tree ConditionNode) (n : ConditionNode) (gp : Good p) (ga : Go
       let z = e3 ∙ ap (λ (l : List ConditionNode). l ++ written r) y in
       e4 ∙ ap (λ (l : List ConditionNode). l ++ (n ∷ [])) z ∙ append_assoc (written p ++ written a) (written r) (n ∷ [])
 
-  all_joined : {l4 l5 l6 l7 : NodeList} → nodes_of l4 ≡ (written p ++ written a) ++ (written r ++ (n ∷ [])) → Joins l4 l5 → Joins l5 l6 → Joins l6 l7
-      → nodes_of l7 ≡ written (and_tree p (and_tree a (and_tree r (leaf n))))
+  all_joined : {l4 l5 l6 l7 : NodeList} → l4.items ≡ (written p ++ written a) ++ (written r ++ (n ∷ [])) → Joins l4 l5 → Joins l5 l6 → Joins l6 l7
+      → l7.items ≡ written (and_tree p (and_tree a (and_tree r (leaf n))))
   all_joined e j k m =
       let last = and_tree r (leaf n) in
       let middle = and_tree a last in
@@ -35,11 +34,11 @@ returns g c =
     let a = action_tree t.action in
     let r = resource_tree t.resource in
     let n = clause_node cs t.clause in
-    let wrote = c.push.ensures.more ∙ ap (λ (x : ConditionNode). nodes_of c.write_scope-2.new.list ++ (x ∷ [])) c.clause_node.ensures in
+    let wrote = c.push.ensures.items ∙ ap (λ (x : ConditionNode). c.write_scope-2.new.list.items ++ (x ∷ [])) c.clause_node.ensures in
     let gp = good_principal t.principal in
     let ga = good_action t.action in
     let gr = good_resource t.resource in
     let gn = good_clause cs t.clause in
     all_joined p a r n gp ga gr gn
-    (in_turn p a r n gp ga gr gn c.new-list.ensures.0 c.write_scope.ensures.more c.write_action.ensures.more c.write_scope-2.ensures.more wrote)
+    (in_turn p a r n gp ga gr gn c.new-list.ensures c.write_scope.ensures.more c.write_action.ensures.more c.write_scope-2.ensures.more wrote)
     c.and.ensures c.and-2.ensures c.and-3.ensures

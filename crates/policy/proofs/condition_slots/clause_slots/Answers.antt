@@ -1,13 +1,8 @@
 use Rattle.std.proofs.Common.{ℕ, Option, sym, ap, ◌∙◌}
 use Rattle.policy.specs.Slots.{slots_where, has_bit}
 use Rattle.policy.specs.Mentions.{clause_has}
-use Rattle.policy.proofs.Sets.{as_slots}
+use Rattle.refusals.proofs.Sets.{as_slots}
 use Rattle.policy.proofs.condition_slots.clause_slots.Goals as goal
-
-pub returns-in-None : goal.returns-in-None
-returns-in-None g c =
-    c.empty.ensures
-    ∙ ap (λ (o : Option ℕ). slots_where (clause_has (g.B.ClauseBook.listed c.args.clauses.now) o)) (sym c.in-None.is)
 
 pub returns-in-Some : goal.returns-in-Some
 returns-in-Some g c =

@@ -2,7 +2,8 @@ use Rattle.std.proofs.Common.{◌≡◌, ℕ, ◌+◌, ◌<◌, List, length, ge
 use Rattle.std.proofs.lemmas.List.{at_drop_more, at_drop_all}
 use Rattle.refusals.specs.declared.refusal.Refusal.{Refusal}
 use Rattle.names.specs.declared.entity.EntityUID.{EntityUID}
-use Rattle.policy.specs.Known.{name_known, names_known, entity_names, entities_names, and_then}
+use Rattle.clauses.specs.NameChecks.{name_check}
+use Rattle.policy.specs.Known.{names_known, entity_names, entities_names, and_then}
 use Rattle.policy.proofs.Testing.{broke, turn_append}
 use Rattle.policy.proofs.known.known_entities.Goals as goal
 
@@ -12,7 +13,7 @@ onward : (count : ℕ) (list : List EntityUID) (i : ℕ) (r : Result (Unit {0}) 
     → and_then r (names_known count (entities_names (drop (i + 1) list))) ≡ names_known count (entities_names (drop i list))
 onward count list i r h e =
     ap (λ (x : Result (Unit {0}) Refusal). and_then x (names_known count (entities_names (drop (i + 1) list)))) e
-    ∙ sym (turn_append (name_known count) (entity_names (get_or list i (record { ty = 0; eid = 0 }))) (entities_names (drop (i + 1) list)))
+    ∙ sym (turn_append (name_check count) (entity_names (get_or list i (record { ty = 0; eid = 0 }))) (entities_names (drop (i + 1) list)))
     ∙ sym (at_drop_more (λ (es : List EntityUID). names_known count (entities_names es)) list i (record { ty = 0; eid = 0 }) h)
 
 pub returns-in_err-known_entity : goal.returns-in_err-known_entity

@@ -5,7 +5,7 @@ use Rattle.refusals.specs.declared.refusal.Refusal.{Refusal}
 use Rattle.refusals.specs.declared.refusal.Refusal.TheVariants.{UnexpectedSlot}
 use Rattle.policy.specs.Slots.{has_bit}
 use Rattle.policy.specs.Static.{slotless}
-use Rattle.policy.proofs.Bits.{by_four}
+use Rattle.refusals.proofs.Bits.{by_four}
 use Rattle.policy.proofs.fixed.StaticPolicy.new.Goals as goal
 
 never : (e : Refusal) → ◌≡◌ {A = Result (Unit {0}) Refusal} (Ok tt) (Err e) → ⊥

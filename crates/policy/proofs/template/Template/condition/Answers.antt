@@ -33,7 +33,7 @@ pub returns : goal.returns
 returns g c =
     let t = c.args.self.now in
     let cs = g.B.ClauseBook.listed c.args.clauses.now in
-    let same = c.as_slice.ensures ∙ c.written_condition-nodes.ensures in
+    let same = c.as_slice.ensures.value ∙ c.written_condition-nodes.ensures in
     record {
       answer =
           c.copy_out.ensures.answer

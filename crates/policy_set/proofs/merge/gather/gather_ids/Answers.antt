@@ -1,30 +1,25 @@
-use Rattle.std.proofs.Common.{take, sym, ◌∙◌, arith}
-use Rattle.std.proofs.lemmas.List.{at_drop_all}
-use Rattle.policy_set.specs.Merge.{gather}
-use Rattle.policy_set.proofs.Turns.{gather_turn, gather_room}
+use Rattle.std.proofs.Common.{ℕ, true, length, sym, refl, ap, ◌∙◌, arith}
+use Rattle.std.proofs.lemmas.Fn.{says_at}
+use Rattle.arrayvec.specs.ArrayVec.{ArrayVec}
+use Rattle.policy_set.specs.Merge.{noted}
+use Rattle.policy_set.proofs.RowCounts.{noted-length}
+use Rattle.policy_set.proofs.Turns.{gather_turn}
 use Rattle.policy_set.proofs.merge.gather.gather_ids.Goals as goal
+use Rattle.policy_set.proofs.merge.gather.gather_ids.Goals.{then-test, else-test}
 
-pub loop-i-preserved : goal.loop-i-preserved
-loop-i-preserved g c = (
-  omega (arith, c.note_id-n.ensures.count, c.note_id-n.ensures.len),
-  gather_turn g.R.Keyed.naming (g.T.Test.asks c.args.test.now) (take c.loop-i.n c.loop-i.ids) (take c.note_id-n.result c.note_id-n.new.ids)
-      c.args.rows.now c.loop-i.i c.index-rows-i.result c.test-wanted.result c.key-id.result c.loop-i-test.true c.index-rows-i.is
-      c.test-wanted.ensures c.key-id.ensures c.note_id-n.ensures.after
-      ∙ c.loop-i.invariant.1,
-)
-
-pub returns : goal.returns
-returns g c = record {
-  len = c.loop-i.auto.ids;
-  count = omega (arith, c.loop-i.invariant.0, c.loop-i.auto.ids);
-  after = sym (at_drop_all (gather g.R.Keyed.naming (g.T.Test.asks c.args.test.now) (take c.loop-i.n c.loop-i.ids)) c.args.rows.now c.loop-i.i (omega arith))
-      ∙ c.loop-i.invariant.1;
-}
-
-pub note_id-n-requires : goal.note_id-n-requires
-note_id-n-requires g c = record {
-  used = c.loop-i.invariant.0;
-  room = gather_room g.R.Keyed.naming (g.T.Test.asks c.args.test.now) (take c.loop-i.n c.loop-i.ids) _ c.args.rows.now c.loop-i.i
-      c.index-rows-i.result c.test-wanted.result c.key-id.result _ c.loop-i-test.true c.index-rows-i.is c.test-wanted.ensures c.key-id.ensures
-      c.loop-i.invariant.1 (omega (arith, c.requires.room, c.loop-i.auto.ids));
-}
+pub loop-row-preserved : goal.loop-row-preserved
+loop-row-preserved g c =
+    let ids = c.loop-row.ids.items in
+    let x = c.row-item.result in (
+      elim c.if-test.branch [
+        | then-test w ↦ omega (arith, ap (λ (v : ArrayVec ℕ). length v.items) w.ids-is, ap length w.note_id.ensures, (noted-length true w.key.result ids).1, c.loop-row.invariant.0)
+        | else-test w ↦ omega (arith, ap (λ (v : ArrayVec ℕ). length v.items) w.ids-is, c.loop-row.invariant.0)
+      ],
+      λ asks law. gather_turn g.R.Keyed.naming asks ids c.if-test.ids.items c.args.rows.now c.loop-row.row-index x c.loop-row-test.true c.row-item.is
+          (let told = law x c.test.result (says_at g.F.Fn c.test.ensures refl) in elim c.if-test.branch [
+            | then-test w ↦ ap (λ (v : ArrayVec ℕ). v.items) w.ids-is
+                ∙ (w.note_id.ensures ∙ (ap (λ b. noted b w.key.result ids) (sym w.if-test.true ∙ told) ∙ ap (λ k. noted (asks x) k ids) w.key.ensures))
+            | else-test w ↦ ap (λ (v : ArrayVec ℕ). v.items) w.ids-is ∙ ap (λ b. noted b (g.R.Keyed.naming x) ids) (sym w.if-test.false ∙ told)
+          ])
+          ∙ c.loop-row.invariant.1 asks law,
+    )

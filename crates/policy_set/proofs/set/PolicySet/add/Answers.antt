@@ -5,7 +5,7 @@ use Rattle.policy.specs.Arity.{parts}
 use Rattle.policy.specs.declared.bound.Policy.{Policy}
 use Rattle.policy_set.specs.declared.rows.PolicyRow.{PolicyRow}
 use Rattle.policy_set.specs.declared.set.PolicySet.{PolicySet}
-use Rattle.policy_set.specs.Held.{templates_in, policies_in, members_in}
+use Rattle.policy_set.specs.Held.{rows_in}
 use Rattle.policy_set.specs.Maps.{Maps, row_at}
 use Rattle.policy_set.specs.Sound.{member}
 use Rattle.policy_set.specs.Answers.{add_answer, row_for, with_or_inserted, with_policy}
@@ -35,24 +35,21 @@ grant cs same set p lawful n = granted same (maps_of set) (sound set) (kept_in s
 pub or_insert-requires : goal.or_insert-requires
 or_insert-requires g c =
     let cs = g.B.ClauseBook.listed c.args.clauses.now in
-    (new_policy (length (texts c.args.names.now)) cs (same_clause g.B.ClauseBook.equal cs) (maps_of c.args.self.now) c.args.policy c.in_ok-can_add.ensures).template_room
+    (omega arith, (new_policy (length (texts c.args.names.now)) cs (same_clause g.B.ClauseBook.equal cs) (maps_of c.args.self.now) c.args.policy c.in_ok-can_add.ensures).template_room)
 
 pub push-requires : goal.push-requires
 push-requires g c =
     let set = c.args.self.now in
     let cs = g.B.ClauseBook.listed c.args.clauses.now in
     let n = new_policy (length (texts c.args.names.now)) cs (same_clause g.B.ClauseBook.equal cs) (maps_of set) c.args.policy c.in_ok-can_add.ensures in
-    record { room = n.policy_room; new = ap (λ (r : PolicyRow). row_at (maps_of set) r.id) c.row_for-row.ensures ∙ n.policy_free }
+    (omega arith, (n.policy_room, ap (λ (r : PolicyRow). row_at (maps_of set) r.id) c.from-row.ensures ∙ n.policy_free))
 
 pub push-requires-2 : goal.push-requires-2
 push-requires-2 g c =
     let set = c.args.self.now in
     let cs = g.B.ClauseBook.listed c.args.clauses.now in
     let n = new_policy (length (texts c.args.names.now)) cs (same_clause g.B.ClauseBook.equal cs) (maps_of set) c.args.policy c.in_ok-can_add.ensures in
-    record {
-      room = omega (arith, n.policy_room, as_many (maps_of set) (sound set));
-      new = no_member (maps_of set) (sound set) c.row_for-row.result.id (ap (λ (r : PolicyRow). row_at (maps_of set) r.id) c.row_for-row.ensures ∙ n.policy_free);
-    }
+    (omega arith, (omega (arith, n.policy_room, as_many (maps_of set) (sound set)), no_member (maps_of set) (sound set) c.from-row.result.id (ap (λ (r : PolicyRow). row_at (maps_of set) r.id) c.from-row.ensures ∙ n.policy_free)))
 
 pub invariant_of-self : goal.invariant_of-self
 invariant_of-self g c =
@@ -61,10 +58,10 @@ invariant_of-self g c =
     let cs = g.B.ClauseBook.listed c.args.clauses.now in
     let same = same_clause g.B.ClauseBook.equal cs in
     let n = new_policy (length (texts c.args.names.now)) cs same (maps_of set) p c.in_ok-can_add.ensures in
-    let k = kept_as (with_policy (row_for (parts p)) (with_or_inserted p.template (maps_of set))) (templates_in c.or_insert.new.self) (policies_in c.push.new.self) (members_in c.push-2.new.self)
+    let k = kept_as (with_policy (row_for (parts p)) (with_or_inserted p.template (maps_of set))) (rows_in c.or_insert.new.self) (rows_in c.push.new.self) (rows_in c.push-2.new.self)
     c.or_insert.ensures
-    (c.push.ensures ∙ ap (λ (r : PolicyRow). policies_in set.policies ++ r ∷ []) c.row_for-row.ensures)
-    (c.push-2.ensures ∙ ap (λ (r : PolicyRow). members_in set.members ++ member r ∷ []) c.row_for-row.ensures)
+    (c.push.ensures ∙ ap (λ (r : PolicyRow). rows_in set.policies ++ r ∷ []) c.from-row.ensures)
+    (c.push-2.ensures ∙ ap (λ (r : PolicyRow). rows_in set.members ++ member r ∷ []) c.from-row.ensures)
     (grant cs same set p (g.met.B.ClauseBook.lawful c.args.clauses.now) n).kept in
     record { names_one = k.one; valued = k.values; scoped = k.scopes; same_members = k.members }
 
@@ -76,10 +73,10 @@ returns g c =
     let same = same_clause g.B.ClauseBook.equal cs in
     let n = new_policy (length (texts c.args.names.now)) cs same (maps_of set) p c.in_ok-can_add.ensures in
     let after = with_policy (row_for (parts p)) (with_or_inserted p.template (maps_of set)) in
-    let e = maps_equal after (templates_in c.or_insert.new.self) (policies_in c.push.new.self) (members_in c.push-2.new.self)
+    let e = maps_equal after (rows_in c.or_insert.new.self) (rows_in c.push.new.self) (rows_in c.push-2.new.self)
     c.or_insert.ensures
-    (c.push.ensures ∙ ap (λ (r : PolicyRow). policies_in set.policies ++ r ∷ []) c.row_for-row.ensures)
-    (c.push-2.ensures ∙ ap (λ (r : PolicyRow). members_in set.members ++ member r ∷ []) c.row_for-row.ensures) in
+    (c.push.ensures ∙ ap (λ (r : PolicyRow). rows_in set.policies ++ r ∷ []) c.from-row.ensures)
+    (c.push-2.ensures ∙ ap (λ (r : PolicyRow). rows_in set.members ++ member r ∷ []) c.from-row.ensures) in
     record {
       answer = c.in_ok-can_add.ensures;
       after = e ∙ accepted_after (add_answer (length (texts c.args.names.now)) cs same (maps_of set) p) after (maps_of set) tt c.in_ok-can_add.ensures;

@@ -1,6 +1,6 @@
 use Rattle.std.proofs.Common.{[], ◌∷◌, length, sym, refl, ◌∙◌, subst, arith}
 use Rattle.names.specs.Book.{texts}
-use Rattle.policy_set.specs.Held.{templates_in, policies_in, members_in}
+use Rattle.policy_set.specs.Held.{rows_in}
 use Rattle.policy_set.specs.Maps.{Maps}
 use Rattle.policy_set.specs.Maps.Thing.{policy}
 use Rattle.policy_set.specs.Sound.{member}
@@ -18,18 +18,18 @@ use Rattle.policy_set.proofs.set.PolicySet.add_static.Goals as goal
 pub push-requires : goal.push-requires
 push-requires g c =
     let n = new_static (length (texts c.args.names.now)) (g.B.ClauseBook.listed c.args.clauses.now) (maps_of c.args.self.now) c.args.policy.body c.in_ok-can_add_static.ensures in
-    record { room = n.template_room; new = n.template_free }
+    (omega arith, (n.template_room, n.template_free))
 
 pub push-requires-2 : goal.push-requires-2
 push-requires-2 g c =
     let n = new_static (length (texts c.args.names.now)) (g.B.ClauseBook.listed c.args.clauses.now) (maps_of c.args.self.now) c.args.policy.body c.in_ok-can_add_static.ensures in
-    record { room = n.policy_room; new = n.policy_free }
+    (omega arith, (n.policy_room, n.policy_free))
 
 pub push-requires-3 : goal.push-requires-3
 push-requires-3 g c =
     let set = c.args.self.now in
     let n = new_static (length (texts c.args.names.now)) (g.B.ClauseBook.listed c.args.clauses.now) (maps_of set) c.args.policy.body c.in_ok-can_add_static.ensures in
-    record { room = omega (arith, n.policy_room, as_many (maps_of set) (sound set)); new = no_member (maps_of set) (sound set) c.args.policy.body.id n.policy_free }
+    (omega arith, (omega (arith, n.policy_room, as_many (maps_of set) (sound set)), no_member (maps_of set) (sound set) c.args.policy.body.id n.policy_free))
 
 pub invariant_of-self : goal.invariant_of-self
 invariant_of-self g c =
@@ -40,7 +40,7 @@ invariant_of-self g c =
     let own : Own t row = record { id = refl; template = refl; static = refl; slotless = c.args.policy.slotless; values = refl } in
     let n = new_static (length (texts c.args.names.now)) cs (maps_of set) t c.in_ok-can_add_static.ensures in
     let w = within cs (g.met.B.ClauseBook.lawful c.args.clauses.now) t n.cached in
-    let k = kept_as (with_policy row (with_template t (maps_of set))) (templates_in c.push.new.self) (policies_in c.push-2.new.self) (members_in c.push-3.new.self)
+    let k = kept_as (with_policy row (with_template t (maps_of set))) (rows_in c.push.new.self) (rows_in c.push-2.new.self) (rows_in c.push-3.new.self)
     c.push.ensures c.push-2.ensures c.push-3.ensures (static_added_kept (maps_of set) t row own (sound set) (kept_in set) n.template_free n.policy_free w) in
     record { names_one = k.one; valued = k.values; scoped = k.scopes; same_members = k.members }
 
@@ -54,7 +54,7 @@ returns g c =
     let answer = add_static_answer (length (texts c.args.names.now)) cs (maps_of set) t in
     let n = new_static (length (texts c.args.names.now)) cs (maps_of set) t c.in_ok-can_add_static.ensures in
     let after = with_policy row (with_template t (maps_of set)) in
-    let e = maps_equal after (templates_in c.push.new.self) (policies_in c.push-2.new.self) (members_in c.push-3.new.self) c.push.ensures c.push-2.ensures c.push-3.ensures in
+    let e = maps_equal after (rows_in c.push.new.self) (rows_in c.push-2.new.self) (rows_in c.push-3.new.self) c.push.ensures c.push-2.ensures c.push-3.ensures in
     record {
       answer = c.in_ok-can_add_static.ensures;
       after = e ∙ accepted_after answer after (maps_of set) tt c.in_ok-can_add_static.ensures;

@@ -1,6 +1,6 @@
-use Rattle.std.proofs.Common.{[], length, sym, refl, ◌∙◌, subst}
+use Rattle.std.proofs.Common.{[], length, sym, refl, ◌∙◌, subst, arith}
 use Rattle.names.specs.Book.{texts}
-use Rattle.policy_set.specs.Held.{templates_in, policies_in, members_in}
+use Rattle.policy_set.specs.Held.{rows_in}
 use Rattle.policy_set.specs.Maps.{Maps}
 use Rattle.policy_set.specs.Maps.Thing.{template}
 use Rattle.policy_set.specs.Answers.{add_template_answer, with_template}
@@ -17,7 +17,7 @@ use Rattle.policy_set.proofs.set.PolicySet.add_template.Goals as goal
 pub push-requires : goal.push-requires
 push-requires g c =
     let n = new_template (length (texts c.args.names.now)) (g.B.ClauseBook.listed c.args.clauses.now) (maps_of c.args.self.now) c.args.t c.in_ok-can_add_template.ensures in
-    record { room = n.room; new = n.template_free }
+    (omega arith, (n.room, n.template_free))
 
 pub invariant_of-self : goal.invariant_of-self
 invariant_of-self g c =
@@ -26,7 +26,7 @@ invariant_of-self g c =
     let cs = g.B.ClauseBook.listed c.args.clauses.now in
     let n = new_template (length (texts c.args.names.now)) cs (maps_of set) t c.in_ok-can_add_template.ensures in
     let w = within cs (g.met.B.ClauseBook.lawful c.args.clauses.now) t n.cached in
-    let k = kept_as (with_template t (maps_of set)) (templates_in c.push.new.self) (policies_in set.policies) (members_in set.members)
+    let k = kept_as (with_template t (maps_of set)) (rows_in c.push.new.self) (rows_in set.policies) (rows_in set.members)
     c.push.ensures refl refl (template_added_kept (maps_of set) t (sound set) (kept_in set) n.template_free n.policy_free n.has_slots w) in
     record { names_one = k.one; valued = k.values; scoped = k.scopes; same_members = k.members }
 
@@ -37,7 +37,7 @@ returns g c =
     let cs = g.B.ClauseBook.listed c.args.clauses.now in
     let answer = add_template_answer (length (texts c.args.names.now)) cs (maps_of set) t in
     let n = new_template (length (texts c.args.names.now)) cs (maps_of set) t c.in_ok-can_add_template.ensures in
-    let e = maps_equal (with_template t (maps_of set)) (templates_in c.push.new.self) (policies_in set.policies) (members_in set.members) c.push.ensures refl refl in
+    let e = maps_equal (with_template t (maps_of set)) (rows_in c.push.new.self) (rows_in set.policies) (rows_in set.members) c.push.ensures refl refl in
     record {
       answer = c.in_ok-can_add_template.ensures;
       after = e ∙ accepted_after answer (with_template t (maps_of set)) (maps_of set) tt c.in_ok-can_add_template.ensures;

@@ -1,12 +1,11 @@
-use Rattle.std.proofs.Common.{refl}
-use Rattle.policy_set.specs.Rows.{member_id}
-use Rattle.policy_set.specs.Held.{members_in}
-use Rattle.policy_set.specs.Answers.{is_under}
-use Rattle.policy_set.proofs.Listings.{lists}
+use Rattle.policy_set.proofs.Listed as listed
 use Rattle.policy_set.proofs.set.PolicySet.get_linked_policies.Goals as goal
 
-pub returns : goal.returns
-returns c = record {
-  answer = c.linked_policy.ensures;
-  lists = lists member_id (is_under c.args.id) (members_in c.args.self.now.members) _ c.args.self.now.members.once (λ place. refl);
-}
+pub returns-in_err-check_name-clause-lists : goal.returns-in_err-check_name-clause-lists
+returns-in_err-check_name-clause-lists c = listed.linked_policies c.args.self.now c.args.id
+
+pub returns-then-not-has_template-clause-lists : goal.returns-then-not-has_template-clause-lists
+returns-then-not-has_template-clause-lists c = listed.linked_policies c.args.self.now c.args.id
+
+pub returns-clause-lists : goal.returns-clause-lists
+returns-clause-lists c = listed.linked_policies c.args.self.now c.args.id

@@ -1,6 +1,6 @@
 use Rattle.std.proofs.Common.{length, sym, refl, ◌∙◌, subst}
 use Rattle.names.specs.Book.{texts}
-use Rattle.policy_set.specs.Held.{templates_in, policies_in, members_in}
+use Rattle.policy_set.specs.Held.{rows_in}
 use Rattle.policy_set.specs.Maps.{Maps}
 use Rattle.policy_set.specs.Maps.Thing.{template}
 use Rattle.policy_set.specs.Answers.{remove_template_answer, without_template}
@@ -18,7 +18,7 @@ invariant_of-self c =
     let set = c.args.self.now in
     let id = c.args.id in
     let u = removable (length (texts c.args.names.now)) (maps_of set) id c.in_ok-template.template c.in_ok-template.ensures in
-    let k = kept_as (without_template id (maps_of set)) (templates_in c.remove.new.self) (policies_in set.policies) (members_in set.members)
+    let k = kept_as (without_template id (maps_of set)) (rows_in c.remove.new.self) (rows_in set.policies) (rows_in set.members)
     c.remove.ensures refl refl (template_removed_kept (maps_of set) id (sound set) (kept_in set) u.no_policy u.no_members) in
     record { names_one = k.one; valued = k.values; scoped = k.scopes; same_members = k.members }
 
@@ -28,7 +28,7 @@ returns c =
     let id = c.args.id in
     let t = c.in_ok-template.template in
     let u = removable (length (texts c.args.names.now)) (maps_of set) id t c.in_ok-template.ensures in
-    let e = maps_equal (without_template id (maps_of set)) (templates_in c.remove.new.self) (policies_in set.policies) (members_in set.members) c.remove.ensures refl refl in
+    let e = maps_equal (without_template id (maps_of set)) (rows_in c.remove.new.self) (rows_in set.policies) (rows_in set.members) c.remove.ensures refl refl in
     record {
       answer = c.in_ok-template.ensures;
       after = e ∙ accepted_after (remove_template_answer (length (texts c.args.names.now)) (maps_of set) id) (without_template id (maps_of set)) (maps_of set) t c.in_ok-template.ensures;

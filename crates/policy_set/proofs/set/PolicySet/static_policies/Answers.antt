@@ -1,17 +1,17 @@
-use Rattle.std.proofs.Common.{filter, ap, ◌∙◌}
-use Rattle.std.specs.List.{slice_get}
-use Rattle.policy_set.specs.Rows.{policy_id}
-use Rattle.policy_set.specs.Maps.{changed}
-use Rattle.policy_set.specs.Held.{policies_in}
+use Rattle.std.proofs.Common.{rules, tests}
+use Rattle.std.proofs.lemmas.Iterator.{YieldsList-from_slice}
+use Rattle.std.proofs.lemmas.Iterator.Consumers.{YieldsList-from_filter, nth_from_yields_List}
+use Rattle.policy_set.specs.Held.{rows_in}
 use Rattle.policy_set.specs.Listing.{both_ids, is_static}
-use Rattle.policy_set.proofs.Listings.{lists, first_of_both}
+use Rattle.policy_set.proofs.Listed as listed
+use Rattle.policy_set.proofs.Passes.{mapped}
 use Rattle.policy_set.proofs.set.PolicySet.static_policies.Goals as goal
 
 pub returns : goal.returns
 returns c = record {
   answer =
-      c.ids_of.ensures ∙ ap (changed both_ids) c.nth_passing.ensures
-      ∙ ap (λ rows. changed both_ids (slice_get (filter is_static rows) c.args.place)) c.rows.ensures;
-  lists = lists policy_id is_static (policies_in c.args.self.now.policies) _ c.args.self.now.policies.once
-      (λ place. first_of_both (slice_get (filter is_static (policies_in c.args.self.now.policies)) place));
+      mapped (λ y. y.now) both_ids c.nth.result c.map.result _ _ c.map.ensures.cases (λ x y p. search (rules, tests))
+      (nth_from_yields_List c.nth.result _ c.args.place c.nth.ensures.ran
+      (YieldsList-from_filter _ is_static (YieldsList-from_slice (rows_in c.args.self.now.policies) cc) c.filter.ensures.closure (λ x b q k. search (rules, tests))));
+  lists = listed.static_policies c.args.self.now;
 }

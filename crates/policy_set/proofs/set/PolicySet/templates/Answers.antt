@@ -1,16 +1,18 @@
-use Rattle.std.proofs.Common.{filter, refl, ap, ◌∙◌}
-use Rattle.std.specs.List.{slice_get}
+use Rattle.std.proofs.Common.{rules, tests}
+use Rattle.std.proofs.lemmas.Iterator.{YieldsList-from_slice}
+use Rattle.std.proofs.lemmas.Iterator.Consumers.{YieldsList-from_filter, nth_from_yields_List}
+use Rattle.policy_set.specs.Held.{rows_in}
 use Rattle.policy_set.specs.Rows.{template_id}
-use Rattle.policy_set.specs.Maps.{changed}
-use Rattle.policy_set.specs.Held.{templates_in}
 use Rattle.policy_set.specs.Sound.{has_slots}
-use Rattle.policy_set.proofs.Listings.{lists}
+use Rattle.policy_set.proofs.Listed as listed
+use Rattle.policy_set.proofs.Passes.{mapped}
 use Rattle.policy_set.proofs.set.PolicySet.templates.Goals as goal
 
 pub returns : goal.returns
 returns c = record {
   answer =
-      c.id_of.ensures ∙ ap (changed template_id) c.nth_passing.ensures
-      ∙ ap (λ rows. changed template_id (slice_get (filter has_slots rows) c.args.place)) c.rows.ensures;
-  lists = lists template_id has_slots (templates_in c.args.self.now.templates) _ c.args.self.now.templates.once (λ place. refl);
+      mapped (λ y. y.now) template_id c.nth.result c.map.result _ _ c.map.ensures.cases (λ x y p. search (rules, tests))
+      (nth_from_yields_List c.nth.result _ c.args.place c.nth.ensures.ran
+      (YieldsList-from_filter _ has_slots (YieldsList-from_slice (rows_in c.args.self.now.templates) cc) c.filter.ensures.closure (λ x b q k. search (rules, tests))));
+  lists = listed.templates c.args.self.now;
 }

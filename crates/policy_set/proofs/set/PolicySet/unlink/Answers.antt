@@ -1,7 +1,7 @@
 use Rattle.std.proofs.Common.{length, sym, refl, ◌∙◌, subst}
 use Rattle.names.specs.Book.{texts}
 use Rattle.policy.specs.Arity.{parts}
-use Rattle.policy_set.specs.Held.{templates_in, policies_in, members_in}
+use Rattle.policy_set.specs.Held.{rows_in}
 use Rattle.policy_set.specs.Maps.{Maps}
 use Rattle.policy_set.specs.Maps.Thing.{policy}
 use Rattle.policy_set.specs.Answers.{unlink_answer, without_policy}
@@ -19,7 +19,7 @@ invariant_of-self c =
     let set = c.args.self.now in
     let id = c.args.id in
     let u = unlinkable (length (texts c.args.names.now)) (maps_of set) id (parts c.in_ok-policy.policy) c.in_ok-policy.ensures in
-    let k = kept_as (without_policy id (maps_of set)) (templates_in set.templates) (policies_in c.remove.new.self) (members_in c.remove-2.new.self)
+    let k = kept_as (without_policy id (maps_of set)) (rows_in set.templates) (rows_in c.remove.new.self) (rows_in c.remove-2.new.self)
     refl c.remove.ensures c.remove-2.ensures (link_removed_kept (maps_of set) id (sound set) (kept_in set) u.no_template) in
     record { names_one = k.one; valued = k.values; scoped = k.scopes; same_members = k.members }
 
@@ -29,7 +29,7 @@ returns c =
     let id = c.args.id in
     let p = parts c.in_ok-policy.policy in
     let u = unlinkable (length (texts c.args.names.now)) (maps_of set) id p c.in_ok-policy.ensures in
-    let e = maps_equal (without_policy id (maps_of set)) (templates_in set.templates) (policies_in c.remove.new.self) (members_in c.remove-2.new.self)
+    let e = maps_equal (without_policy id (maps_of set)) (rows_in set.templates) (rows_in c.remove.new.self) (rows_in c.remove-2.new.self)
     refl c.remove.ensures c.remove-2.ensures in
     record {
       answer = c.in_ok-policy.ensures;

@@ -10,17 +10,17 @@ pub returns-in_err-check_template : goal.returns-in_err-check_template
 returns-in_err-check_template g c =
     let p = err_from_is_err_and c.from_residual.result c.from_residual.ensures.1 in
     p.1 ∙ ap Err p.2
-    ∙ fault_at (texts c.args.names.now) (g.B.ClauseBook.listed c.args.clauses.now) c.args.rows.now c.loop-i.i c.index-rows-i.result
-    _ c.loop-i-test.true c.index-rows-i.is c.in_err-check_template.ensures
-    ∙ c.loop-i.invariant
+    ∙ fault_at (texts c.args.names.now) (g.B.ClauseBook.listed c.args.clauses.now) c.args.rows.now c.loop-t.t-index c.t-item.result
+    _ c.loop-t-test.true c.t-item.is c.in_err-check_template.ensures
+    ∙ c.loop-t.invariant
 
-pub loop-i-preserved : goal.loop-i-preserved
-loop-i-preserved g c =
-    fault_past (texts c.args.names.now) (g.B.ClauseBook.listed c.args.clauses.now) c.args.rows.now c.loop-i.i c.index-rows-i.result
-    c.loop-i-test.true c.index-rows-i.is c.in_ok-check_template.ensures
-    ∙ c.loop-i.invariant
+pub loop-t-preserved : goal.loop-t-preserved
+loop-t-preserved g c =
+    fault_past (texts c.args.names.now) (g.B.ClauseBook.listed c.args.clauses.now) c.args.rows.now c.loop-t.t-index c.t-item.result
+    c.loop-t-test.true c.t-item.is c.in_ok-check_template.ensures
+    ∙ c.loop-t.invariant
 
 pub returns : goal.returns
 returns g c =
-    sym (at_drop_all (try_validate_answer (texts c.args.names.now) (g.B.ClauseBook.listed c.args.clauses.now)) c.args.rows.now c.loop-i.i (omega arith))
-    ∙ c.loop-i.invariant
+    sym (at_drop_all (try_validate_answer (texts c.args.names.now) (g.B.ClauseBook.listed c.args.clauses.now)) c.args.rows.now c.loop-t.t-index (omega arith))
+    ∙ c.loop-t.invariant

@@ -1,0 +1,4 @@
+use Rattle.policy_set.proofs.merge.candidate.+push_decimal.Given as goal
+
+abbrev pub decreases-push_decimal : goal.decreases-push_decimal
+decreases-push_decimal l = l.n

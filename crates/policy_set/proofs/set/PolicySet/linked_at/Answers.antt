@@ -1,0 +1,15 @@
+use Rattle.std.proofs.Common.{rules, tests}
+use Rattle.std.proofs.lemmas.Iterator.{YieldsList-from_slice}
+use Rattle.std.proofs.lemmas.Iterator.Consumers.{YieldsList-from_filter, nth_from_yields_List}
+use Rattle.policy_set.specs.Held.{rows_in}
+use Rattle.policy_set.specs.Rows.{member_id}
+use Rattle.policy_set.specs.Answers.{is_under}
+use Rattle.policy_set.proofs.Passes.{mapped}
+use Rattle.policy_set.proofs.set.PolicySet.linked_at.Goals as goal
+
+pub returns : goal.returns
+returns c =
+    mapped (λ y. y.now) member_id c.nth.result c.map.result _ _ c.map.ensures.cases (λ x y p. search (rules, tests))
+    (nth_from_yields_List c.nth.result _ c.args.place c.nth.ensures.ran
+    (YieldsList-from_filter _ (is_under c.args.template) (YieldsList-from_slice (rows_in c.args.self.now.members) cc)
+    c.filter.ensures.closure (λ x b q k. search (rules, tests))))
