@@ -25,6 +25,7 @@ fn number(names: &NameBook, counter: u32) -> Option<usize>
 }
 
 // The number that a counter's text has or would get, and the counter raised past it.
+// `fresh` is a count alone, here and below, so no type carries its bound.
 fn attempt(names: &NameBook, fresh: usize, counter: u32) -> Try
     requires fresh { fresh ≤ 640 }
     requires counter { counter < 65536 }

@@ -25,7 +25,7 @@ impl<'a> Both<'a> {
     pub(crate) fn is_template_on_policy(&self, row: &Template) -> bool
         ensures { result ≡ template_on_policy (maps_of self.now.live.now) row.now }
     {
-        row.slots.bits != 0 && self.live.has_policy(row.id)
+        !row.slots.is_empty() && self.live.has_policy(row.id)
     }
 
     // Whether the policy is a link and a template is live under its id.

@@ -54,7 +54,7 @@ impl PolicySet {
         ensures { result ≡ add_template_answer (length (texts names.now)) (B.ClauseBook.listed clauses.now) (maps_of self.now) t.now }
     {
         self.can_enter(t, names, clauses)?;
-        if t.slots.bits == 0 {
+        if t.slots.is_empty() {
             return Err(Refusal::Slotless(t.id));
         }
         if !self.templates.has_room() {
@@ -115,8 +115,8 @@ impl PolicySet {
             principal: None,
             resource: None,
         };
-        // A method for the last two pushes would owe the set's invariant before the template is there.
         self.templates.push(policy.body);
+        // A method for the next two pushes would owe the set's invariant here, where the template has no policy yet.
         self.policies.push(PolicyRow {
             id,
             template: id,

@@ -47,7 +47,7 @@ impl PolicySet {
         if self.is_bound(new) {
             return Err(Refusal::PolicyIdConflict(new));
         }
-        if template.slots.bits == 0 {
+        if template.slots.is_empty() {
             return Err(Refusal::Slotless(template.id));
         }
         if !self.policies.has_room() {
@@ -85,6 +85,7 @@ impl PolicySet {
         ensures law { Linking (maps_of self.old) (maps_of self.new) template_id new_id (parts_of result) }
     {
         let policy = self.new_link(template_id, new_id, values, names)?;
+        // The two pushes are written out, as in `add_static`.
         self.policies.push(PolicyRow {
             id: new_id,
             template: template_id,

@@ -48,7 +48,7 @@ impl PolicySet {
         self.templates
             .rows()
             .iter()
-            .filter(|t| t.slots.bits != 0)
+            .filter(|t| !t.slots.is_empty())
             .nth(place)
             .map(|t| t.id)
     }

@@ -56,7 +56,7 @@ impl PolicySet {
         let Some(id) = link else {
             return Ok(());
         };
-        if t.slots.bits == 0 {
+        if t.slots.is_empty() {
             return Err(Refusal::Slotless(t.id));
         }
         if id == t.id {
@@ -120,6 +120,7 @@ impl PolicySet {
         self.can_add(&policy, names, clauses)?;
         let row = PolicyRow::from(&policy);
         self.templates.or_insert(policy.template);
+        // The two pushes are written out, as in `add_static`.
         self.policies.push(row);
         self.members.push(Member {
             policy: row.id,
