@@ -32,3 +32,4 @@ mod NewTexts
 mod RowCounts
 mod Turns
 mod Choices
+pub mod Outcomes

@@ -7,6 +7,7 @@ use policy::fixed::StaticPolicy;
 use policy::scope::ActionScope;
 use policy::template::Template;
 use policy::values::SlotEnv;
+use policy_set::rows::Renaming;
 use policy_set::set::PolicySet;
 use refusals::NameNumber;
 use refusals::refusal::Refusal;
@@ -82,15 +83,6 @@ fn records(home: &Books) -> Result<(Template, StaticPolicy, Policy), Refusal> {
     Ok((t, s, link))
 }
 
-// An answer as the number of its refusal and the first value; 0 and 0 where it is accepted.
-// Not compared whole: what is handed back may be a policy, which has no derived `==`.
-fn told<T: Drop>(answer: Result<T, Refusal>) -> (u8, usize) {
-    match answer {
-        Ok(_) => (0, 0),
-        Err(refusal) => (refusal.number(), refusal.values().0.unwrap_or(0)),
-    }
-}
-
 #[test]
 fn names_of_another_book(rt: HostRuntime) -> Result<(), Fail> {
     let home = filled(rt.alloc(), &[b"t", b"s"], &[])?;
@@ -105,11 +97,17 @@ fn names_of_another_book(rt: HostRuntime) -> Result<(), Fail> {
     )?;
     let mut set = PolicySet::new();
     assert_eq!(rt;
-        told(set.add_template(t, &away.names, &away.clauses)),
-        (1, 1)
+        set.add_template(t, &away.names, &away.clauses).err(),
+        Some(Refusal::UnknownName(1))
     );
-    assert_eq!(rt; told(set.add_static(s, &away.names, &away.clauses)), (1, 1));
-    assert_eq!(rt; told(set.add(link, &away.names, &away.clauses)), (1, 1));
+    assert_eq!(rt;
+        set.add_static(s, &away.names, &away.clauses).err(),
+        Some(Refusal::UnknownName(1))
+    );
+    assert_eq!(rt;
+        set.add(link, &away.names, &away.clauses).err(),
+        Some(Refusal::UnknownName(1))
+    );
     assert!(rt; set.is_empty());
     Ok(())
 }
@@ -122,15 +120,42 @@ fn numbers_of_another_book(rt: HostRuntime) -> Result<(), Fail> {
     set.add_template(template(&home, 0, SLOT, None)?, &home.names, &home.clauses)?;
     let known = principal(EntityUID { ty: 0, eid: 0 });
     let unknown = principal(EntityUID { ty: 0, eid: 2 });
-    assert_eq!(rt; told(set.link(1, 0, known, &away.names)), (1, 1));
-    assert_eq!(rt; told(set.link(0, 1, known, &away.names)), (1, 1));
-    assert_eq!(rt; told(set.link(0, 0, unknown, &away.names)), (1, 2));
-    assert_eq!(rt; told(set.unlink(1, &away.names)), (1, 1));
-    assert_eq!(rt; told(set.remove_static(1, &away.names)), (1, 1));
-    assert_eq!(rt; told(set.remove_template(1, &away.names)), (1, 1));
-    assert_eq!(rt; told(set.get(1, &away.names)), (1, 1));
-    assert_eq!(rt; told(set.get_template(1, &away.names)), (1, 1));
-    assert_eq!(rt; told(set.get_linked_policies(1, 0, &away.names)), (1, 1));
+    assert_eq!(rt;
+        set.link(1, 0, known, &away.names).err(),
+        Some(Refusal::UnknownName(1))
+    );
+    assert_eq!(rt;
+        set.link(0, 1, known, &away.names).err(),
+        Some(Refusal::UnknownName(1))
+    );
+    assert_eq!(rt;
+        set.link(0, 0, unknown, &away.names).err(),
+        Some(Refusal::UnknownName(2))
+    );
+    assert_eq!(rt;
+        set.unlink(1, &away.names).err(),
+        Some(Refusal::UnknownName(1))
+    );
+    assert_eq!(rt;
+        set.remove_static(1, &away.names).err(),
+        Some(Refusal::UnknownName(1))
+    );
+    assert_eq!(rt;
+        set.remove_template(1, &away.names).err(),
+        Some(Refusal::UnknownName(1))
+    );
+    assert_eq!(rt;
+        set.get(1, &away.names).err(),
+        Some(Refusal::UnknownName(1))
+    );
+    assert_eq!(rt;
+        set.get_template(1, &away.names).err(),
+        Some(Refusal::UnknownName(1))
+    );
+    assert_eq!(rt;
+        set.get_linked_policies(1, 0, &away.names).err(),
+        Some(Refusal::UnknownName(1))
+    );
     Ok(())
 }
 
@@ -141,11 +166,17 @@ fn clauses_of_another_book(rt: HostRuntime) -> Result<(), Fail> {
     let (t, s, link) = records(&home)?;
     let mut set = PolicySet::new();
     assert_eq!(rt;
-        told(set.add_template(t, &away.names, &away.clauses)),
-        (2, 0)
+        set.add_template(t, &away.names, &away.clauses).err(),
+        Some(Refusal::UnknownClause(0))
     );
-    assert_eq!(rt; told(set.add_static(s, &away.names, &away.clauses)), (2, 0));
-    assert_eq!(rt; told(set.add(link, &away.names, &away.clauses)), (2, 0));
+    assert_eq!(rt;
+        set.add_static(s, &away.names, &away.clauses).err(),
+        Some(Refusal::UnknownClause(0))
+    );
+    assert_eq!(rt;
+        set.add(link, &away.names, &away.clauses).err(),
+        Some(Refusal::UnknownClause(0))
+    );
     assert!(rt; set.is_empty());
     Ok(())
 }
@@ -157,11 +188,34 @@ fn slots_of_another_book(rt: HostRuntime) -> Result<(), Fail> {
     let (t, s, link) = records(&home)?;
     let mut set = PolicySet::new();
     assert_eq!(rt;
-        told(set.add_template(t, &away.names, &away.clauses)),
-        (9, 0)
+        set.add_template(t, &away.names, &away.clauses).err(),
+        Some(Refusal::SlotCacheMismatch(0))
     );
-    assert_eq!(rt; told(set.add_static(s, &away.names, &away.clauses)), (9, 1));
-    assert_eq!(rt; told(set.add(link, &away.names, &away.clauses)), (9, 0));
+    assert_eq!(rt;
+        set.add_static(s, &away.names, &away.clauses).err(),
+        Some(Refusal::SlotCacheMismatch(1))
+    );
+    assert_eq!(rt;
+        set.add(link, &away.names, &away.clauses).err(),
+        Some(Refusal::SlotCacheMismatch(0))
+    );
     assert!(rt; set.is_empty());
+    Ok(())
+}
+
+// The number that every absent text would get is bound in the live set: a merge is refused with 4.
+#[test]
+fn merging_sets_of_another_book(rt: HostRuntime) -> Result<(), Fail> {
+    let home = filled(rt.alloc(), &[b"t", b"u"], &[])?;
+    let mut away = filled(rt.alloc(), &[b"t"], &[])?;
+    let mut live = PolicySet::new();
+    let mut incoming = PolicySet::new();
+    live.add_template(template(&home, 0, SLOT, None)?, &home.names, &home.clauses)?;
+    live.add_template(template(&home, 1, SLOT, None)?, &home.names, &home.clauses)?;
+    let other = PrincipalOrResourceConstraint::In(EntityReference::Slot);
+    incoming.add_template(template(&home, 0, other, None)?, &home.names, &home.clauses)?;
+    let mut pairs = [Renaming { old: 0, new: 0 }; 4];
+    let answer = live.merge_policyset(&incoming, &mut away.names, &away.clauses, true, &mut pairs);
+    assert_eq!(rt; answer.err(), Some(Refusal::BookFull));
     Ok(())
 }

@@ -15,13 +15,14 @@ pub enum Side {
 // A call with its arguments.
 #[derive(Clone, Copy)]
 pub enum Call<'a> {
-    // a text to name
+    // the text to name
     Name(&'a [u8]),
     AddTemplate(Side, Template),
     AddStatic(Side, StaticPolicy),
     Add(Side, Policy),
-    // the template's id, the new id and the values
+    // a template's id, the new id and the values
     Link(Side, NameNumber, NameNumber, SlotEnv),
+    // an id, here and below
     Unlink(Side, NameNumber),
     RemoveStatic(Side, NameNumber),
     RemoveTemplate(Side, NameNumber),

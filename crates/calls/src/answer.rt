@@ -5,18 +5,19 @@ use policy::template::Template;
 use refusals::NameNumber;
 use refusals::refusal::Refusal;
 
-// The answer to a call.
+// What an accepted call hands back.
 #[derive(Clone, Copy)]
-pub enum Answer {
+pub enum Handed {
+    Nothing,
     // the number of a text
-    Named(NameNumber),
-    // accepted, with nothing to hand back
-    Done,
+    Name(NameNumber),
     // the policy that a link made or a removal took
-    HandedPolicy(Policy),
+    Policy(Policy),
     // the template that a removal took
-    HandedTemplate(Template),
+    Template(Template),
     // the pairs of a merge
-    Merged(Pairs),
-    Refused(Refusal),
+    Pairs(Pairs),
 }
+
+// The answer to a call.
+pub type Answer = Result<Handed, Refusal>;

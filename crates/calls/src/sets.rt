@@ -2,7 +2,10 @@
 use policy_set::set::PolicySet;
 
 pub mod making;
+pub(crate) mod merging;
+pub mod reads;
 pub mod running;
+pub(crate) mod sides;
 
 // The two sets.
 #[derive(Drop)]

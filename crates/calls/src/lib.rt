@@ -5,3 +5,5 @@ pub mod answer;
 pub mod call;
 pub mod pairs;
 pub mod sets;
+#[cfg(test)]
+mod tests;
