@@ -1,4 +1,4 @@
-ghost use Rattle.std.specs.Prelude.{◌≡◌, [], vec_items, MatchResult, ◌≢◌};
+ghost use Rattle.std.specs.Prelude.{◌≡◌, [], vec_items, MatchResult, ◌≢◌, ◌≤◌, IfOk};
 ghost use Rattle.std.specs.Iterator.{YieldsFirstRef, item_count};
 ghost use Rattle.std.specs.Option.{option_map};
 ghost use Rattle.std.specs.Result.{result_ok};
@@ -78,5 +78,17 @@ impl<'a> Args<'a> {
             Some(_) => Err(Wrong::ExtraWord),
             None => Ok(()),
         }
+    }
+
+    // How many places the caller's buffer has, to the end of the line: without a word, or with more, as many as can be needed.
+    pub fn room(&mut self, most: usize) -> Result<usize, Wrong>
+        ensures { IfOk result (λ room. room ≤ most) }
+    {
+        let Some(word) = self.next() else {
+            return Ok(most);
+        };
+        self.end()?;
+        let room = read_number(word, u32::MAX).ok_or(Wrong::BadNumber)?;
+        Ok((room as usize).min(most))
     }
 }

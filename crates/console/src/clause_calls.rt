@@ -1,7 +1,9 @@
 // Lines that enter clauses: sealed texts or trees, never both.
 use crate::args::Args;
-use crate::reader::Reader;
+use crate::reader::{Reader, side};
+use crate::set_calls::SetWord;
 use crate::stop::{Stop, Wrong};
+use calls::sets::Sets;
 use clauses::sealed::book::SealedBook;
 use clauses::tree::book::TreeBook;
 use clauses::tree::node::{Node, Var};
@@ -22,6 +24,8 @@ pub struct Clauses {
     trees: TreeBook,
     // None before the first clause.
     kind: Option<Kind>,
+    // Whether a line has named a set, behind which no clause comes.
+    closed: bool,
 }
 
 impl Reader<'_> {
@@ -69,11 +73,15 @@ impl Clauses {
             sealed,
             trees,
             kind: None,
+            closed: false,
         })
     }
 
     // The first clause says which book the script stands on.
     fn settle(&mut self, kind: Kind) -> Result<(), Wrong> {
+        if self.closed {
+            return Err(Wrong::LateClause);
+        }
         if *self.kind.get_or_insert(kind) == kind {
             Ok(())
         } else {
@@ -112,6 +120,22 @@ impl Clauses {
         match self.kind {
             Some(Kind::Trees) => reader.binding(args, &self.trees),
             Some(Kind::Sealed) | None => reader.binding(args, &self.sealed),
+        }
+    }
+
+    // A line on a set, likewise: its first word is read, and the next one names the set.
+    pub fn set_line(
+        &mut self,
+        first: SetWord,
+        reader: &mut Reader,
+        args: &mut Args,
+        sets: &mut Sets,
+    ) -> Result<String, Stop> {
+        let side = side(args.word()?)?;
+        self.closed = true;
+        match self.kind {
+            Some(Kind::Trees) => reader.set_line(first, side, args, sets, &self.trees),
+            Some(Kind::Sealed) | None => reader.set_line(first, side, args, sets, &self.sealed),
         }
     }
 }

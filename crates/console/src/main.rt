@@ -3,12 +3,17 @@
 // Reads a script of calls from standard input and prints the answers.
 mod actions;
 mod args;
+mod body;
 mod clause_calls;
+mod dump;
 mod name_calls;
 mod print;
 mod reader;
+mod records;
 mod refused;
 mod session;
+mod set_calls;
+mod set_reads;
 mod stop;
 mod template_calls;
 
@@ -16,7 +21,10 @@ use anyhow::anyhow;
 use session::Session;
 use std::io::{BufRead, BufReader, BufWriter, Write};
 
-// Answers every line of the input, which may end without a line feed.
+// The lines that stand behind the last one of every script.
+const LAST_LINES: [&[u8]; 2] = [b"dump A", b"dump B"];
+
+// Answers every line of the input, which may end without a line feed, and then dumps both sets.
 fn run(rt: &HostRuntime) -> anyhow::Result<()> {
     let heap = rt.alloc();
     let mut session = Session::new(heap).map_err(|_| anyhow!("no memory for the books"))?;
@@ -25,6 +33,11 @@ fn run(rt: &HostRuntime) -> anyhow::Result<()> {
     for line in input.split(heap, b'\n') {
         let line = line?;
         if let Some(answer) = session.answer(line.as_slice())? {
+            writeln!(output, "{answer}")?;
+        }
+    }
+    for last in LAST_LINES {
+        if let Some(answer) = session.answer(last)? {
             writeln!(output, "{answer}")?;
         }
     }

@@ -1,8 +1,15 @@
+ghost use Rattle.std.specs.Prelude.{◌≡◌};
+ghost use Rattle.std.specs.Result.{result_ok};
+ghost use Rattle.console.specs.Records.{side_of};
+
 // The words of a line that stand for entities, scopes and values.
+use crate::args::Args;
 use crate::stop::{Stop, Wrong};
+use calls::call::Side;
 use names::entity::EntityUID;
 use names::kept::NameBook;
 use policy::constraint::{Effect, EntityReference, PrincipalOrResourceConstraint};
+use policy::values::SlotEnv;
 use refusals::NameNumber;
 use script::decode::decode;
 use script::number::read_number;
@@ -22,6 +29,18 @@ impl Reader<'_> {
     pub fn name(&mut self, word: &[u8]) -> Result<NameNumber, Stop> {
         let text = decode(self.heap, word)?.ok_or(Wrong::BadPercent)?;
         Ok(self.book.name(text.as_slice())?)
+    }
+
+    // The id that is the next word.
+    pub fn id(&mut self, args: &mut Args) -> Result<NameNumber, Stop> {
+        self.name(args.word()?)
+    }
+
+    // The id that is the last word.
+    pub fn last_id(&mut self, args: &mut Args) -> Result<NameNumber, Stop> {
+        let id = self.id(args)?;
+        args.end()?;
+        Ok(id)
     }
 
     // TYPE/EID
@@ -64,10 +83,20 @@ impl Reader<'_> {
     }
 
     // `-`, or the entity that a slot is given
-    pub fn value(&mut self, word: &[u8]) -> Result<Option<EntityUID>, Stop> {
+    fn value(&mut self, word: &[u8]) -> Result<Option<EntityUID>, Stop> {
         Ok(match word {
             b"-" => None,
             _ => Some(self.entity(word)?),
+        })
+    }
+
+    // PV RV
+    pub fn values(&mut self, args: &mut Args) -> Result<SlotEnv, Stop> {
+        let principal = self.value(args.word()?)?;
+        let resource = self.value(args.word()?)?;
+        Ok(SlotEnv {
+            principal,
+            resource,
         })
     }
 }
@@ -78,6 +107,17 @@ pub fn effect(word: &[u8]) -> Result<Effect, Wrong> {
         b"permit" => Ok(Effect::Permit),
         b"forbid" => Ok(Effect::Forbid),
         _ => Err(Wrong::BadEffect),
+    }
+}
+
+// A or B: the console's format and not the library's, so it is no `TryFrom` of `Side`
+pub fn side(word: &[u8]) -> Result<Side, Wrong>
+    ensures { result_ok result ≡ side_of word.now }
+{
+    match word {
+        b"A" => Ok(Side::A),
+        b"B" => Ok(Side::B),
+        _ => Err(Wrong::BadSet),
     }
 }
 

@@ -3,7 +3,9 @@ use crate::clause_calls::Clauses;
 use crate::name_calls::NameWord;
 use crate::reader::Reader;
 use crate::refused::refused;
+use crate::set_calls::SetWord;
 use crate::stop::{Stop, Wrong};
+use calls::sets::Sets;
 use names::book::{PLACES, ROOM};
 use names::kept::NameBook;
 use std::alloc::{AllocError, Global};
@@ -14,6 +16,7 @@ pub struct Session {
     heap: Global,
     book: NameBook,
     clauses: Clauses,
+    sets: Sets,
 }
 
 impl Session {
@@ -25,6 +28,7 @@ impl Session {
             heap,
             book,
             clauses,
+            sets: Sets::new(),
         })
     }
 
@@ -50,7 +54,11 @@ impl Session {
             b"tree" => self.clauses.tree(&mut reader, &mut args)?,
             b"condition" => self.clauses.condition(&mut reader, &mut args)?,
             b"binding" => self.clauses.binding(&mut reader, &mut args)?,
-            _ => return Err(Wrong::UnknownCall.into()),
+            _ => {
+                let first = SetWord::of(head).ok_or(Wrong::UnknownCall)?;
+                self.clauses
+                    .set_line(first, &mut reader, &mut args, &mut self.sets)?
+            }
         };
         Ok(Some(answer))
     }

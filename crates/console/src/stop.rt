@@ -18,6 +18,10 @@ pub enum Wrong {
     BadScope,
     BadEffect,
     BadNode,
+    BadSet,
+    SameSet,
+    BadKind,
+    BadMerge,
     OtherBook,
     LateClause,
 }
@@ -34,6 +38,10 @@ impl fmt::Display for Wrong {
             Wrong::BadScope => "no such scope",
             Wrong::BadEffect => "an effect is permit or forbid",
             Wrong::BadNode => "no such node",
+            Wrong::BadSet => "a set is A or B",
+            Wrong::SameSet => "a set is merged into the other",
+            Wrong::BadKind => "a policy is static or link",
+            Wrong::BadMerge => "a merge is to rename or refuse",
             Wrong::OtherBook => "a script has clauses or trees, not both",
             Wrong::LateClause => "clauses come before the first call on a set",
         })

@@ -1,0 +1,57 @@
+// The parts of a template as a line has them.
+use crate::actions::{ActionWord, lent};
+use crate::args::Args;
+use crate::reader::{Reader, clause, effect};
+use crate::stop::Stop;
+use clauses::book::ClauseBook;
+use names::kept::NameBook;
+use policy::constraint::{Effect, PrincipalOrResourceConstraint};
+use policy::template::Template;
+use refusals::NameNumber;
+use refusals::refusal::Refusal;
+
+#[derive(Drop)]
+pub struct Body {
+    effect: Effect,
+    principal: PrincipalOrResourceConstraint,
+    action: ActionWord,
+    resource: PrincipalOrResourceConstraint,
+    clause: Option<u16>,
+}
+
+impl Body {
+    // EFFECT P A R CLAUSE
+    pub fn read(reader: &mut Reader, args: &mut Args) -> Result<Body, Stop> {
+        let effect = effect(args.word()?)?;
+        let principal = reader.scope(args.word()?)?;
+        let action = reader.action(args.word()?)?;
+        let resource = reader.scope(args.word()?)?;
+        let clause = clause(args.word()?)?;
+        Ok(Body {
+            effect,
+            principal,
+            action,
+            resource,
+            clause,
+        })
+    }
+
+    // The template of the line under an id.
+    pub fn template<B: ClauseBook>(
+        &self,
+        id: NameNumber,
+        book: &NameBook,
+        clauses: &B,
+    ) -> Result<Template, Refusal> {
+        Template::new(
+            id,
+            self.effect,
+            self.principal,
+            lent(&self.action),
+            self.resource,
+            self.clause,
+            book,
+            clauses,
+        )
+    }
+}

@@ -1,0 +1,89 @@
+ghost use Rattle.std.specs.Prelude.{◌≡◌};
+ghost use Rattle.console.specs.Records.{side_word};
+
+// What a set holds, line by line.
+use crate::print::{push_id, push_number};
+use crate::records::{push_policy, push_template};
+use crate::set_reads::{ids_under, places};
+use crate::stop::Stop;
+use calls::call::Side;
+use names::kept::NameBook;
+use policy_set::set::PolicySet;
+use refusals::NameNumber;
+use std::alloc::Global;
+use std::fmt::Write;
+
+// The word of a set: the console's format and not the library's, so it is no `Display` of `Side`.
+fn side_word(side: Side) -> &'static str
+    ensures { result.now ≡ side_word side }
+{
+    match side {
+        Side::A => "A",
+        Side::B => "B",
+    }
+}
+
+// Puts a `template` line for each of some templates behind a text.
+fn push_templates(
+    text: &mut String,
+    book: &NameBook,
+    set: &PolicySet,
+    ids: &[NameNumber],
+) -> Result<(), Stop> {
+    for id in ids {
+        if let Some(t) = set.get_template(*id, book)? {
+            write!(text, "\ntemplate")?;
+            push_template(text, book, &t)?;
+        }
+    }
+    Ok(())
+}
+
+// Puts a `policy` line for each of some policies behind a text; of the ids, the first is the policy's.
+fn push_policies(
+    text: &mut String,
+    book: &NameBook,
+    set: &PolicySet,
+    ids: &[(NameNumber, NameNumber)],
+) -> Result<(), Stop> {
+    for (id, _) in ids {
+        if let Some(policy) = set.get(*id, book)? {
+            write!(text, "\npolicy")?;
+            push_policy(text, book, &policy)?;
+        }
+    }
+    Ok(())
+}
+
+// Puts a `reverse` line for each of some templates behind a text.
+fn push_reverse(
+    text: &mut String,
+    book: &NameBook,
+    set: &PolicySet,
+    ids: &[NameNumber],
+) -> Result<(), Stop> {
+    for id in ids {
+        let members = ids_under(*text.allocator(), book, set, *id)?;
+        write!(text, "\nreverse")?;
+        push_id(text, book, *id)?;
+        push_number(text, members.len())?;
+        for member in members.as_slice() {
+            push_id(text, book, *member)?;
+        }
+    }
+    Ok(())
+}
+
+// The lines of a set, without the last line feed.
+pub fn dump(heap: Global, book: &NameBook, side: Side, set: &PolicySet) -> Result<String, Stop> {
+    let templates = places(heap, |place| set.all_templates(place))?;
+    let policies = places(heap, |place| set.policies(place))?;
+    let word = side_word(side);
+    let mut text = format!(in heap; "dump {word}")?;
+    push_number(&mut text, templates.len())?;
+    push_number(&mut text, policies.len())?;
+    push_templates(&mut text, book, set, templates.as_slice())?;
+    push_policies(&mut text, book, set, policies.as_slice())?;
+    push_reverse(&mut text, book, set, templates.as_slice())?;
+    Ok(text)
+}

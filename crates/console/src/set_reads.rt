@@ -1,0 +1,177 @@
+ghost use Rattle.std.specs.Prelude.{◌≡◌, IfOk, string_bytes, map};
+ghost use Rattle.names.specs.Book.{texts as texts_of};
+ghost use Rattle.console.specs.Printing.{id_word};
+ghost use Rattle.console.specs.Records.{counted_line};
+
+// Lines that read a set.
+use crate::args::Args;
+use crate::dump::dump;
+use crate::print::push_id;
+use crate::reader::Reader;
+use crate::records::{push_pair, push_scope};
+use crate::stop::Stop;
+use calls::call::Side;
+use clauses::book::ClauseBook;
+use names::kept::NameBook;
+use policy_set::set::PolicySet;
+use refusals::NameNumber;
+use std::alloc::{AllocError, Global};
+
+// No table of a set has more rows.
+const MOST_ROWS: usize = 256;
+
+// The first word of a line that reads a set.
+#[derive(Clone, Copy)]
+pub enum Read {
+    Policies,
+    StaticPolicies,
+    Templates,
+    Links,
+    Filled,
+    Validate,
+    Dump,
+}
+
+impl Read {
+    // What a line's first word reads; none where it reads no set.
+    pub fn of(head: &[u8]) -> Option<Read> {
+        match head {
+            b"policies" => Some(Read::Policies),
+            b"static_policies" => Some(Read::StaticPolicies),
+            b"templates" => Some(Read::Templates),
+            b"links" => Some(Read::Links),
+            b"filled" => Some(Read::Filled),
+            b"validate" => Some(Read::Validate),
+            b"dump" => Some(Read::Dump),
+            _ => None,
+        }
+    }
+}
+
+// All that a listing gives, place by place.
+pub fn places<T: Drop, F: Fn(usize) -> Option<T>>(heap: Global, at: F) -> Result<Vec<T>, AllocError>
+    requires { F.IsAlwaysCallable at }
+{
+    let mut list = Vec::new(heap);
+    for place in 0..MOST_ROWS {
+        let Some(item) = at(place) else {
+            break;
+        };
+        list.push(item)?;
+    }
+    Ok(list)
+}
+
+// The policies under a template.
+pub fn ids_under(
+    heap: Global,
+    book: &NameBook,
+    set: &PolicySet,
+    id: NameNumber,
+) -> Result<Vec<NameNumber>, Stop> {
+    // Whether there is such a template is asked once: at the other places the call can't be refused.
+    let _ = set.get_linked_policies(id, 0, book)?;
+    Ok(places(
+        heap,
+        |place| set.get_linked_policies(id, place, book).unwrap_or(None),
+    )?)
+}
+
+// `ok N ID ...`
+fn ids_line(heap: Global, book: &NameBook, ids: &[NameNumber]) -> Result<String, AllocError>
+    ensures { IfOk result (λ line. string_bytes line ≡ counted_line (map (id_word (texts_of book.now)) ids.now)) }
+{
+    let count = ids.len();
+    let mut line = format!(in heap; "ok {count}")?;
+    for id in ids {
+        push_id(&mut line, book, *id)?;
+    }
+    Ok(line)
+}
+
+impl Reader<'_> {
+    // A listing of two ids at each place: `ok N ID,TEMPLATEID ...`
+    fn pairs<F: Fn(usize) -> Option<(NameNumber, NameNumber)>>(
+        &self,
+        args: &mut Args,
+        at: F,
+    ) -> Result<String, Stop>
+        requires { F.IsAlwaysCallable at }
+    {
+        args.end()?;
+        let pairs = places(self.heap, at)?;
+        let count = pairs.len();
+        let mut line = format!(in self.heap; "ok {count}")?;
+        for (id, template) in pairs.as_slice() {
+            push_pair(&mut line, self.book, *id, ",", *template)?;
+        }
+        Ok(line)
+    }
+
+    // `templates SET`: `ok N ID ...`
+    fn templates(&self, args: &mut Args, set: &PolicySet) -> Result<String, Stop> {
+        args.end()?;
+        let ids = places(self.heap, |place| set.templates(place))?;
+        Ok(ids_line(self.heap, self.book, ids.as_slice())?)
+    }
+
+    // `links SET ID`: `ok N ID ...`
+    fn links(&mut self, args: &mut Args, set: &PolicySet) -> Result<String, Stop> {
+        let id = self.last_id(args)?;
+        let ids = ids_under(self.heap, self.book, set, id)?;
+        Ok(ids_line(self.heap, self.book, ids.as_slice())?)
+    }
+
+    // `filled SET ID`: `ok P R`, or `none`
+    fn filled<B: ClauseBook>(
+        &mut self,
+        args: &mut Args,
+        set: &PolicySet,
+        clauses: &B,
+    ) -> Result<String, Stop> {
+        let id = self.last_id(args)?;
+        let Some(policy) = set.get(id, self.book)? else {
+            return Ok(String::from_str(self.heap, "none")?);
+        };
+        let filled = policy.with_filled_slots(self.book, clauses)?;
+        let mut line = String::from_str(self.heap, "ok")?;
+        push_scope(&mut line, self.book, filled.principal)?;
+        push_scope(&mut line, self.book, filled.resource)?;
+        Ok(line)
+    }
+
+    // `validate SET`: `ok`
+    fn validate<B: ClauseBook>(
+        &self,
+        args: &mut Args,
+        set: &PolicySet,
+        clauses: &B,
+    ) -> Result<String, Stop> {
+        args.end()?;
+        set.try_validate(self.book, clauses)?;
+        Ok(String::from_str(self.heap, "ok")?)
+    }
+
+    // Reads one of the sets.
+    pub fn read_set<B: ClauseBook>(
+        &mut self,
+        read: Read,
+        side: Side,
+        args: &mut Args,
+        set: &PolicySet,
+        clauses: &B,
+    ) -> Result<String, Stop> {
+        match read {
+            Read::Policies => self.pairs(args, |place| set.policies(place)),
+            Read::StaticPolicies => self.pairs(args, |place| set.static_policies(place)),
+            Read::Templates => self.templates(args, set),
+            Read::Links => self.links(args, set),
+            Read::Filled => self.filled(args, set, clauses),
+            Read::Validate => self.validate(args, set, clauses),
+            Read::Dump => {
+                args.end()?;
+                dump(self.heap, self.book, side, set)
+            }
+        }
+    }
+}
