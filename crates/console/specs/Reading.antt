@@ -1,5 +1,8 @@
 -- What is read from the words of a line.
-use Rattle.std.specs.Prelude.{◌≡◌, ℕ, List, [], ◌∷◌, Some, None, Ok, Err, Option, Result}
+use Rattle.std.specs.Prelude.{◌≡◌, ℕ, cond, List, [], ◌∷◌, Some, None, Ok, Err, codes, Option, Result}
+use Rattle.std.specs.Str.{bytes_eq}
+use Rattle.calls.specs.declared.call.Side.{Side}
+use Rattle.calls.specs.declared.call.Side.TheVariants.{A, B}
 use Rattle.script.specs.Cursor.{to_come}
 use Rattle.script.specs.Number.{numeral, at_most}
 use Rattle.script.specs.Percent.{decoded}
@@ -37,3 +40,7 @@ Reads view (Ok x) meant = meant ≡ Some (view x)
 Reads view (Err (Wrong wrong)) meant = meant ≡ None
 Reads view (Err (Refused refusal)) meant = ⊥
 Reads view (Err NoMemory) meant = Unit {0}
+
+-- The set that a word names.
+abbrev pub side_of : List ℕ → Option Side
+side_of word = cond (bytes_eq word (codes "A")) (Some A) (cond (bytes_eq word (codes "B")) (Some B) None)

@@ -81,14 +81,22 @@ impl<'a> Args<'a> {
     }
 
     // How many places the caller's buffer has, to the end of the line: without a word, or with more, as many as can be needed.
-    pub fn room(&mut self, most: usize) -> Result<usize, Wrong>
+    pub fn room(&mut self, most: u32) -> Result<usize, Wrong>
         ensures { IfOk result (λ room. room ≤ most) }
     {
         let Some(word) = self.next() else {
-            return Ok(most);
+            return Ok(most as usize);
         };
         self.end()?;
-        let room = read_number(word, u32::MAX).ok_or(Wrong::BadNumber)?;
-        Ok((room as usize).min(most))
+        match read_number(word, most) {
+            Some(room) => Ok(room as usize),
+            None if is_numeral(word) => Ok(most as usize),
+            None => Err(Wrong::BadRoom),
+        }
     }
+}
+
+// Whether a word is a number, however large.
+fn is_numeral(word: &[u8]) -> bool {
+    !word.is_empty() && word.iter().all(|byte| byte.is_ascii_digit())
 }

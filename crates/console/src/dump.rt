@@ -1,27 +1,15 @@
-ghost use Rattle.std.specs.Prelude.{◌≡◌};
-ghost use Rattle.console.specs.Records.{side_word};
-
 // What a set holds, line by line.
-use crate::print::{push_id, push_number};
-use crate::records::{push_policy, push_template};
 use crate::set_reads::{ids_under, places};
 use crate::stop::Stop;
 use calls::call::Side;
 use names::kept::NameBook;
 use policy_set::set::PolicySet;
+use printing::answers::side_word;
+use printing::print::{push_id, push_number};
+use printing::records::{push_policy, push_template};
 use refusals::NameNumber;
 use std::alloc::Global;
 use std::fmt::Write;
-
-// The word of a set: the console's format and not the library's, so it is no `Display` of `Side`.
-fn side_word(side: Side) -> &'static str
-    ensures { result.now ≡ side_word side }
-{
-    match side {
-        Side::A => "A",
-        Side::B => "B",
-    }
-}
 
 // Puts a `template` line for each of some templates behind a text.
 fn push_templates(

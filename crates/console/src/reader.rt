@@ -1,6 +1,6 @@
 ghost use Rattle.std.specs.Prelude.{◌≡◌};
 ghost use Rattle.std.specs.Result.{result_ok};
-ghost use Rattle.console.specs.Records.{side_of};
+ghost use Rattle.console.specs.Reading.{side_of};
 
 // The words of a line that stand for entities, scopes and values.
 use crate::args::Args;

@@ -2,12 +2,12 @@ use crate::args::Args;
 use crate::clause_calls::Clauses;
 use crate::name_calls::NameWord;
 use crate::reader::Reader;
-use crate::refused::refused;
 use crate::set_calls::SetWord;
 use crate::stop::{Stop, Wrong};
 use calls::sets::Sets;
 use names::book::{PLACES, ROOM};
 use names::kept::NameBook;
+use printing::refused::refused;
 use std::alloc::{AllocError, Global};
 
 // What a run keeps from line to line.

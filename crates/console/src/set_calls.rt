@@ -1,15 +1,12 @@
-ghost use Rattle.std.specs.Prelude.{◌≡◌, IfOk, string_bytes};
-ghost use Rattle.names.specs.Book.{texts as texts_of, limits as limits_of};
+ghost use Rattle.std.specs.Prelude.{◌≡◌};
+ghost use Rattle.names.specs.Book.{limits as limits_of};
 ghost use Rattle.calls.specs.Model.{told, answered, step};
 ghost use Rattle.calls.specs.Meaning.{world_of};
-ghost use Rattle.console.specs.Records.{pairs_line, policy_line, handed_line};
 
 // Lines on sets: those that change a set are read into calls, which are made and answered.
 use crate::args::Args;
 use crate::body::Body;
-use crate::print::push_id;
 use crate::reader::{Reader, side};
-use crate::records::{push_fields, push_pair, push_policy, push_template, push_values};
 use crate::set_reads::Read;
 use crate::stop::{Stop, Wrong};
 use calls::answer::{Answer, Handed};
@@ -21,9 +18,7 @@ use names::kept::NameBook;
 use policy::bound::Policy;
 use policy::fixed::StaticPolicy;
 use policy::template::Template;
-use policy_set::rows::Renaming;
-use std::alloc::{AllocError, Global};
-use std::fmt::Write;
+use printing::answers::handed_line;
 
 // The first word of a line that changes a set.
 #[derive(Clone, Copy)]
@@ -80,62 +75,6 @@ fn made<B: ClauseBook>(sets: &mut Sets, names: &mut NameBook, clauses: &B, call:
     let mut answers = [Ok(Handed::Nothing)];
     sets.run(names, clauses, &[call], &mut answers)?;
     answers[0]
-}
-
-// `ok link ID TEMPLATEID PV RV` of a new link, or `ok policy POLICY FIELDS` of a policy that was taken.
-fn policy_line(
-    heap: Global,
-    book: &NameBook,
-    call: Call<'_>,
-    p: &Policy,
-) -> Result<String, AllocError>
-    ensures { IfOk result (λ line. string_bytes line ≡ policy_line (texts_of book.now) call.entry p.now) }
-{
-    if let Call::Link(_, template, id, _) = call {
-        let mut line = String::from_str(heap, "ok link")?;
-        push_id(&mut line, book, id)?;
-        push_id(&mut line, book, template)?;
-        push_values(&mut line, book, p.values)?;
-        return Ok(line);
-    }
-    let mut line = String::from_str(heap, "ok policy")?;
-    push_policy(&mut line, book, p)?;
-    push_fields(&mut line, book, &p.template)?;
-    Ok(line)
-}
-
-// `ok N OLD>NEW ...`
-fn pairs_line(heap: Global, book: &NameBook, pairs: &[Renaming]) -> Result<String, AllocError>
-    ensures { IfOk result (λ line. string_bytes line ≡ pairs_line (texts_of book.now) pairs.now) }
-{
-    let count = pairs.len();
-    let mut line = format!(in heap; "ok {count}")?;
-    for pair in pairs {
-        push_pair(&mut line, book, pair.old, ">", pair.new)?;
-    }
-    Ok(line)
-}
-
-// The line of an accepted call.
-fn handed_line(
-    heap: Global,
-    book: &NameBook,
-    call: Call<'_>,
-    handed: &Handed,
-) -> Result<String, AllocError>
-    ensures { IfOk result (λ line. string_bytes line ≡ handed_line (texts_of book.now) call.entry handed.now) }
-{
-    match handed {
-        Handed::Nothing => String::from_str(heap, "ok"),
-        Handed::Name(number) => format!(in heap; "name {number}"),
-        Handed::Policy(p) => policy_line(heap, book, call, p),
-        Handed::Template(t) => {
-            let mut line = String::from_str(heap, "ok template")?;
-            push_template(&mut line, book, t)?;
-            Ok(line)
-        }
-        Handed::Pairs(pairs) => pairs_line(heap, book, pairs.as_slice()),
-    }
 }
 
 impl Reader<'_> {
@@ -235,5 +174,5 @@ fn merge(into: Side, args: &mut Args) -> Result<Call<'static>, Wrong> {
         b"refuse" => false,
         _ => return Err(Wrong::BadMerge),
     };
-    Ok(Call::Merge(into, rename, args.room(MOST)?))
+    Ok(Call::Merge(into, rename, args.room(MOST as u32)?))
 }

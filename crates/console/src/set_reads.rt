@@ -1,19 +1,14 @@
-ghost use Rattle.std.specs.Prelude.{◌≡◌, IfOk, string_bytes, map};
-ghost use Rattle.names.specs.Book.{texts as texts_of};
-ghost use Rattle.console.specs.Printing.{id_word};
-ghost use Rattle.console.specs.Records.{counted_line};
-
 // Lines that read a set.
 use crate::args::Args;
 use crate::dump::dump;
-use crate::print::push_id;
 use crate::reader::Reader;
-use crate::records::{push_pair, push_scope};
 use crate::stop::Stop;
 use calls::call::Side;
 use clauses::book::ClauseBook;
 use names::kept::NameBook;
 use policy_set::set::PolicySet;
+use printing::answers::{ids_line, policies_line};
+use printing::scopes::push_scope;
 use refusals::NameNumber;
 use std::alloc::{AllocError, Global};
 
@@ -77,21 +72,9 @@ pub fn ids_under(
     )?)
 }
 
-// `ok N ID ...`
-fn ids_line(heap: Global, book: &NameBook, ids: &[NameNumber]) -> Result<String, AllocError>
-    ensures { IfOk result (λ line. string_bytes line ≡ counted_line (map (id_word (texts_of book.now)) ids.now)) }
-{
-    let count = ids.len();
-    let mut line = format!(in heap; "ok {count}")?;
-    for id in ids {
-        push_id(&mut line, book, *id)?;
-    }
-    Ok(line)
-}
-
 impl Reader<'_> {
     // A listing of two ids at each place: `ok N ID,TEMPLATEID ...`
-    fn pairs<F: Fn(usize) -> Option<(NameNumber, NameNumber)>>(
+    fn policies<F: Fn(usize) -> Option<(NameNumber, NameNumber)>>(
         &self,
         args: &mut Args,
         at: F,
@@ -99,13 +82,8 @@ impl Reader<'_> {
         requires { F.IsAlwaysCallable at }
     {
         args.end()?;
-        let pairs = places(self.heap, at)?;
-        let count = pairs.len();
-        let mut line = format!(in self.heap; "ok {count}")?;
-        for (id, template) in pairs.as_slice() {
-            push_pair(&mut line, self.book, *id, ",", *template)?;
-        }
-        Ok(line)
+        let ids = places(self.heap, at)?;
+        Ok(policies_line(self.heap, self.book, ids.as_slice())?)
     }
 
     // `templates SET`: `ok N ID ...`
@@ -162,8 +140,8 @@ impl Reader<'_> {
         clauses: &B,
     ) -> Result<String, Stop> {
         match read {
-            Read::Policies => self.pairs(args, |place| set.policies(place)),
-            Read::StaticPolicies => self.pairs(args, |place| set.static_policies(place)),
+            Read::Policies => self.policies(args, |place| set.policies(place)),
+            Read::StaticPolicies => self.policies(args, |place| set.static_policies(place)),
             Read::Templates => self.templates(args, set),
             Read::Links => self.links(args, set),
             Read::Filled => self.filled(args, set, clauses),

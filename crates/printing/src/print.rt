@@ -1,7 +1,8 @@
 ghost use Rattle.std.specs.Prelude.{◌≡◌, ◌∷◌, ◌++◌, IfOk, string_bytes, decimal, OnOk};
 ghost use Rattle.names.specs.Book.{texts as texts_of};
-ghost use Rattle.console.specs.Printing.{id_word, name_text};
+ghost use Rattle.printing.specs.Print.{id_word, name_text};
 
+// Words, numbers and names behind a line.
 use names::kept::NameBook;
 use refusals::NameNumber;
 use script::encode::{Colon, encode};

@@ -1,7 +1,9 @@
 ghost use Rattle.std.specs.Prelude.{◌≡◌, [], ◌∷◌, IfOk, string_bytes, decimal, OnOk};
 ghost use Rattle.names.specs.Book.{texts as texts_of};
-ghost use Rattle.console.specs.Printing.{spaced, table_word as table_name, value_words, refused_line};
+ghost use Rattle.printing.specs.Print.{spaced};
+ghost use Rattle.printing.specs.Refused.{table_word as table_name, value_words, refused_line};
 
+// Refusals as lines.
 use crate::print::{push_id, push_number, push_word};
 use names::kept::NameBook;
 use refusals::refusal::{Refusal, Table};

@@ -1,8 +1,9 @@
 use Rattle.std.proofs.Common.{◌≡◌, drop, map, string_bytes, codes}
 use Rattle.names.specs.Book.{texts}
-use Rattle.console.specs.Printing.{spaced}
-use Rattle.console.specs.Records.{pair_word, pairs_line}
-use Rattle.console.proofs.set_calls.pairs_line.Given as goal
+use Rattle.printing.specs.Print.{spaced}
+use Rattle.printing.specs.Records.{pair_word}
+use Rattle.printing.specs.Answers.{pairs_line}
+use Rattle.printing.proofs.answers.pairs_line.Given as goal
 
 abbrev pub invariant-loop-pair : goal.invariant-loop-pair
 invariant-loop-pair l =

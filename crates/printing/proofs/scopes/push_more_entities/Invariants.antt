@@ -1,7 +1,7 @@
 use Rattle.std.proofs.Common.{◌≡◌, ◌++◌, drop, string_bytes}
 use Rattle.names.specs.Book.{texts}
-use Rattle.console.specs.Records.{more_entities}
-use Rattle.console.proofs.records.push_more_entities.Given as goal
+use Rattle.printing.specs.Scopes.{more_entities}
+use Rattle.printing.proofs.scopes.push_more_entities.Given as goal
 
 abbrev pub invariant-loop-e : goal.invariant-loop-e
 invariant-loop-e l =

@@ -1,26 +1,11 @@
 -- How refusals are printed.
-use Rattle.std.specs.Prelude.{ℕ, cond, List, [], ◌∷◌, ◌++◌, length, codes, decimal, nat_lt, slice_index_or}
+use Rattle.std.specs.Prelude.{ℕ, List, [], ◌∷◌, ◌++◌, codes, decimal}
 use Rattle.refusals.specs.Refusals.{slot_bit, fault_value, number}
 use Rattle.refusals.specs.declared.refusal.Table.{Table}
 use Rattle.refusals.specs.declared.refusal.Table.TheVariants.{Templates, Policies}
 use Rattle.refusals.specs.declared.refusal.Refusal.{Refusal}
 use Rattle.refusals.specs.declared.refusal.Refusal.TheVariants.{UnknownName, UnknownClause, TooLong, BookFull, BadTypeName, TooManyActions, BadClause, UnexpectedSlot, SlotCacheMismatch, Occupied, NoSuchTemplate, ArityError, PolicyIdConflict, NotLinkError, UnlinkingError, RemovePolicyNoLinkError, RemovePolicyNoTemplateError, NotTemplateError, RemoveTemplateNoTemplateError, RemoveTemplateWithLinksError, MissingTemplate, InvalidTemplate, ShortBuffer, Slotless, Crossed, Full}
-use Rattle.script.specs.Percent.{encoded}
-use Rattle.script.specs.declared.encode.Colon.{Colon}
-use Rattle.script.specs.declared.encode.Colon.TheVariants.{Coded}
-
--- A line with words behind it, a space before each.
-abbrev pub spaced : List ℕ → List (List ℕ) → List ℕ
-spaced line [] = line
-spaced line (word ∷ words) = spaced (line ++ (32 ∷ word)) words
-
--- The text of a name, or its number where the book lacks it.
-abbrev pub name_text : List (List ℕ) → Colon → ℕ → List ℕ
-name_text texts colon number = cond (nat_lt number (length texts)) (encoded colon (slice_index_or texts number [])) (decimal number)
-
--- The text of an id.
-abbrev pub id_word : List (List ℕ) → ℕ → List ℕ
-id_word texts id = name_text texts Coded id
+use Rattle.printing.specs.Print.{spaced, id_word}
 
 -- The name of a table.
 abbrev pub table_word : Table → List ℕ

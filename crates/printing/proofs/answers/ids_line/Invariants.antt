@@ -1,8 +1,8 @@
 use Rattle.std.proofs.Common.{◌≡◌, drop, map, string_bytes}
 use Rattle.names.specs.Book.{texts}
-use Rattle.console.specs.Printing.{spaced, id_word}
-use Rattle.console.specs.Records.{counted_line}
-use Rattle.console.proofs.set_reads.ids_line.Given as goal
+use Rattle.printing.specs.Print.{spaced, id_word}
+use Rattle.printing.specs.Answers.{counted_line}
+use Rattle.printing.proofs.answers.ids_line.Given as goal
 
 abbrev pub invariant-loop-id : goal.invariant-loop-id
 invariant-loop-id l =

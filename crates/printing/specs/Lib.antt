@@ -1,0 +1,6 @@
+pub mod Print
+pub mod Scopes
+pub mod Records
+pub mod Nodes
+pub mod Refused
+pub mod Answers
