@@ -1,4 +1,5 @@
 -- The answers and the law of a book whose clauses are made from their contents.
+-- These are lemmas, and no reader has to believe them: they stand in specs/ since the impl of `ClauseBook` names `lawful_by`.
 use Rattle.std.specs.Prelude.{◌≡◌, ℕ, zero, suc, ◌<◌, Bool, List, [], ◌∷◌, ◌++◌, length, Some, None, Ok, Err, Option, Result, refl}
 use Rattle.std.proofs.Common.{sym, ◌∙◌, ap, arith}
 use Rattle.std.specs.List.{slice_get}
@@ -8,10 +9,12 @@ use Rattle.clauses.specs.Entering.{with_entered}
 use Rattle.clauses.specs.Book.{Clause, Lawful, Same, at, slots_of, constant_of, listing}
 
 module _ {C : Type 0} (make : C → Clause C) where
+  -- There are as many clauses as contents.
   pub length_listing : (ts : List C) → length (listing make ts) ≡ length ts
   length_listing [] = refl
   length_listing (t ∷ ts) = ap suc (length_listing ts)
 
+  -- One content more at the end is one clause more at the end.
   listing_push : (ts : List C) (t : C) → listing make (ts ++ (t ∷ [])) ≡ listing make ts ++ (make t ∷ [])
   listing_push [] t = refl
   listing_push (u ∷ ts) t = ap (λ (l : List (Clause C)). make u ∷ l) (listing_push ts t)
@@ -28,8 +31,9 @@ module _ {C : Type 0} (make : C → Clause C) where
   at_lent read ts n None e = at_listing ts n ∙ sym (ap (option_map make) e)
   at_lent read ts n (Some y) e = at_listing ts n ∙ sym (ap (option_map make) e)
 
-  -- Made from equal contents, clauses are equal.
+  -- Where a clause keeps its content, clauses of equal content are equal.
   module _ (keeps : (t : C) → (make t).content ≡ t) where
+    -- The same of contents that may be absent, where the clauses made from them are there.
     from_content : (s t : Option C) (c d : Clause C) → option_map make s ≡ Some c → option_map make t ≡ Some d → c.content ≡ d.content → option_map make s ≡ option_map make t
     from_content None t c d p q e = let z : ◌≡◌ {A = ℕ} 0 1 = cc in absurd (omega arith)
     from_content (Some s) None c d p q e = let z : ◌≡◌ {A = ℕ} 0 1 = cc in absurd (omega arith)
@@ -39,16 +43,19 @@ module _ {C : Type 0} (make : C → Clause C) where
         let content = λ (x : Clause C). x.content in
         ap (λ (x : C). Some (make x)) (sym (keeps s) ∙ ap content a ∙ e ∙ sym (ap content b) ∙ keeps t)
 
+    -- Clauses of two numbers with equal contents are equal.
     alike : (ts : List C) (a b : ℕ) → Same (listing make ts) a b → at (listing make ts) a ≡ at (listing make ts) b
     alike ts a b s =
         at_listing ts a
         ∙ from_content (slice_get ts a) (slice_get ts b) s.left s.right (sym (at_listing ts a) ∙ s.left_at) (sym (at_listing ts b) ∙ s.right_at) s.alike
         ∙ sym (at_listing ts b)
 
+    -- The slots of a clause that may be absent are two bits.
     small : ((t : C) → (make t).slots < 4) → (o : Option C) → slots_of (option_map make o) < 4
     small f None = omega arith
     small f (Some t) = f t
 
+    -- A clause that may be absent has no slot where it is a constant.
     slotless : ((t : C) (v : Bool) → (make t).constant ≡ Some v → (make t).slots ≡ 0) → (o : Option C) (v : Bool)
         → constant_of (option_map make o) ≡ Some v → slots_of (option_map make o) ≡ 0
     slotless f None v h = refl

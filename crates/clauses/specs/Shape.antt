@@ -12,6 +12,6 @@ pub record Judged {N : Type 0} (takes : N → ℕ) (ns : List N) (answer : Resul
   pub verdict : Verdict takes ns answer
   pub only : (other : Result (Unit {0}) ℕ) → Verdict takes ns other → other ≡ answer
 
--- The writing tells the tree.
+-- The nodes are the writing of one tree at most, so the tree can be read off them.
 abbrev pub OneTree : {N : Type 0} → (N → ℕ) → List N → Type 0
 OneTree takes ns = (s t : One takes ns) → s.tree ≡ t.tree

@@ -1,4 +1,5 @@
 -- Slot sets as two answers.
+-- These are lemmas, and no reader has to believe them: they stand in specs/ since SealedLaw and TreeLaw rest on them.
 use Rattle.std.specs.Prelude.{◌≡◌, ℕ, zero, suc, ◌<◌, Bool, true, false, ◌||◌, bit_and, bit_or, refl}
 use Rattle.std.proofs.Common.{sym, ◌∙◌, ap, arith}
 use Rattle.std.proofs.Math.Bool.{or_assoc}
@@ -7,6 +8,7 @@ use Rattle.refusals.specs.declared.slots.SlotId.{SlotId}
 use Rattle.refusals.specs.declared.slots.SlotId.TheVariants.{Principal, Resource}
 use Rattle.clauses.specs.Slots.{slot_set, Tells}
 
+-- A slot set is two bits.
 pub set_small : (p r : Bool) → slot_set p r < 4
 set_small true true = omega arith
 set_small true false = omega arith
@@ -29,6 +31,7 @@ set_or false true false true = refl
 set_or false true false false = refl
 set_or false false q s = refl
 
+-- Two bits are a slot set.
 as_set : (n : ℕ) → n < 4 → (p : Bool) × ((r : Bool) × (n ≡ slot_set p r))
 as_set zero h = (false, (false, refl))
 as_set (suc zero) h = (true, (false, refl))
@@ -56,6 +59,7 @@ abbrev pub answer : SlotId → Bool → Bool → Bool
 answer Principal p r = p
 answer Resource p r = r
 
+-- A slot whose bit is set is answered with yes,
 in_set : (slot : SlotId) (p r : Bool) → bit_and (slot_set p r) (slot_bit slot) ≡ slot_bit slot → answer slot p r ≡ true
 in_set Principal true r h = refl
 in_set Principal false true h = absurd (omega arith)
@@ -64,6 +68,7 @@ in_set Resource p true h = refl
 in_set Resource true false h = absurd (omega arith)
 in_set Resource false false h = absurd (omega arith)
 
+-- and the bit of a slot that is answered with yes is set.
 set_in : (slot : SlotId) (p r : Bool) → answer slot p r ≡ true → bit_and (slot_set p r) (slot_bit slot) ≡ slot_bit slot
 set_in Principal true true h = refl
 set_in Principal true false h = refl

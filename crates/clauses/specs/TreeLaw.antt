@@ -1,4 +1,5 @@
 -- The laws of trees.
+-- These are lemmas, and no reader has to believe them: they stand in specs/ since the impl of `Content` for `Node` names them.
 use Rattle.std.specs.Prelude.{◌≡◌, ℕ, ◌<◌, Bool, List, [], ◌∷◌, Some, refl}
 use Rattle.std.proofs.Common.{arith}
 use Rattle.std.proofs.lemmas.Slice.Eq.{slice_eq-Decides}
@@ -12,9 +13,11 @@ use Rattle.clauses.specs.Listing.{lawful_by}
 use Rattle.clauses.specs.NodeEquals.{node_decides}
 use Rattle.clauses.specs.SlotSets.{set_small}
 
+-- Comparing node by node decides whether two lists are equal.
 same_trees : (s t : List Node) → Decided (same_nodes s t) (s ≡ t)
 same_trees s t = slice_eq-Decides (λ m n. (node_decides.only m n, node_decides.whenever m n)) s t (same_nodes s t) refl
 
+-- The same, as the law of clause books puts it.
 pub trees_decide : Decides same_nodes
 trees_decide = record { only = λ s t. (same_trees s t).0; whenever = λ s t. (same_trees s t).1 }
 
@@ -31,11 +34,13 @@ lone_slotless node.Eq v h = refl
 lone_slotless node.In v h = refl
 lone_slotless (node.Is t) v h = refl
 
+-- A list of nodes that is a constant has no slot.
 pub trees_slotless : (ns : List Node) (v : Bool) → tree_constant ns ≡ Some v → tree_slots ns ≡ 0
 trees_slotless [] v h = refl
 trees_slotless (n ∷ []) v h = lone_slotless n v h
 trees_slotless (n ∷ (m ∷ ns)) v h = let z : ◌≡◌ {A = ℕ} 0 1 = cc in absurd (omega arith)
 
+-- The slots of a list of nodes are two bits.
 pub trees_small : (t : List Node) → tree_slots t < 4
 trees_small t = set_small (mentions Principal t) (mentions Resource t)
 

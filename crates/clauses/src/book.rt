@@ -5,10 +5,13 @@ use refusals::slots::SlotSet;
 
 // Clauses by number. A book means a list with a content, a slot set and a constant for each number below its count.
 pub trait ClauseBook {
+    // The type of contents.
     ghost content: { Type 0 };
 
+    // The test on contents that `same` makes.
     ghost equal: { content → content → Bool };
 
+    // The list that a book means.
     ghost listed: { Self → List (Clause content) };
 
     // How many clauses there are: 0 to 65,536.
@@ -27,7 +30,9 @@ pub trait ClauseBook {
     fn same(&self, a: u16, b: u16) -> bool
         ensures { result ≡ same_clause equal (listed self.now) a b };
 
+    // A law: the test says yes exactly of equal contents.
     ghost decides: { Decides equal };
 
+    // The law of every book: equal contents have equal slots and constants, and a constant has no slot.
     ghost lawful: { (b : Self) → Lawful (listed b) };
 }

@@ -48,11 +48,12 @@ abbrev pub comment : List ℕ → Bool
 comment [] = false
 comment (b ∷ bs) = b == 35
 
--- What the words of a line ask for.
+-- What a line asks for by its first word, if that is the word of a call on names, and by the words behind it.
 abbrev pub call_of : Option NameWord → List (List ℕ) → Line
 call_of None args = wrong
 call_of (Some w) args = name_call w args
 
+-- What a line asks for, by its words: nothing where it has none or begins a comment.
 abbrev pub line_of : List (List ℕ) → Line
 line_of [] = blank
 line_of (head ∷ args) = cond (comment head) blank (call_of (name_word head) args)

@@ -73,7 +73,7 @@ pub record Told (texts : List (List ℕ)) (n : ℕ) (P : List ℕ → Type 0) (a
 abbrev pub OneToOne : List (List ℕ) → Type 0
 OneToOne texts = (m n : ℕ) → m < length texts → n < length texts → slice_index_or texts m [] ≡ slice_index_or texts n [] → m ≡ n
 
--- The laws of naming a text: `before` and `after` are the texts of the book, `number` what was answered.
+-- The laws of naming a text: `before` and `after` are the texts of the book, `answer` is what `name` answered.
 pub record Naming (before after : List (List ℕ)) (text : List ℕ) (answer : Result ℕ Refusal) : Type 0 where
   -- reading the number that a text was given gives the text
   pub reads_back : (n : ℕ) → answer ≡ Ok n → (n < length after) × (slice_index_or after n [] ≡ text)

@@ -42,6 +42,7 @@ impl Scan {
         }
     }
 
+    // Whether an identifier stands last.
     fn is_inside(self) -> bool
         ensures { result ≡ accepts (Some self) }
     {

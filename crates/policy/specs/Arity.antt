@@ -36,6 +36,7 @@ pub record Parts : Type 0 where
   pub link : Option ℕ
   pub values : SlotEnv
 
+-- The parts of a policy, without the facts that its type keeps.
 abbrev pub parts : Policy → Parts
 parts p = record { template = p.template; link = p.link; values = p.values }
 

@@ -22,6 +22,7 @@ equals_template equal count cs a b =
     and_then (and_then (names_known count (template_names a)) (names_known count (template_names b)))
     (and_then (and_then (clause_known cs a.clause) (clause_known cs b.clause)) (Ok (template_equal (same_clause equal cs) a b)))
 
+-- The same of two policies.
 abbrev pub equals_policy : {C : Type 0} → (C → C → Bool) → ℕ → List (Clause C) → Policy → Policy → Result Bool Refusal
 equals_policy equal count cs a b =
     and_then (and_then (names_known count (policy_names a)) (names_known count (policy_names b)))

@@ -29,13 +29,15 @@ arity node.In = 2
 arity node.And = 2
 arity (node.Clause n) = 0
 
--- A node without operands, over one, and over two.
+-- A node without operands.
 abbrev pub leaf : ConditionNode → Tree ConditionNode
 leaf n = record { top = n; under = none }
 
+-- A node over one operand.
 abbrev pub over_one : ConditionNode → Tree ConditionNode → Tree ConditionNode
 over_one n a = record { top = n; under = more none a.top a.under }
 
+-- A node over two operands, in order.
 abbrev pub over_two : ConditionNode → Tree ConditionNode → Tree ConditionNode → Tree ConditionNode
 over_two n a b = record { top = n; under = more (more none a.top a.under) b.top b.under }
 
@@ -65,6 +67,7 @@ both None b = None
 both (Some a) None = None
 both (Some a) (Some b) = Some (a && b)
 
+-- The constant, if there is one; else `and` over the two trees.
 abbrev pub folded : Option Bool → Tree ConditionNode → Tree ConditionNode → Tree ConditionNode
 folded None a b = over_two node.And a b
 folded (Some c) a b = leaf (node.Bool c)
@@ -73,6 +76,7 @@ folded (Some c) a b = leaf (node.Bool c)
 abbrev pub and_tree : Tree ConditionNode → Tree ConditionNode → Tree ConditionNode
 and_tree a b = folded (both (constant a.top) (constant b.top)) a b
 
+-- What a scope refers to, as a node: an entity, or the slot s.
 abbrev pub reference_node : ConditionNode → EntityReference → ConditionNode
 reference_node s (EUID e) = node.Entity e
 reference_node s Slot = s
@@ -85,9 +89,11 @@ scope_tree v s (scope.Eq r) = over_two node.Eq (leaf v) (leaf (reference_node s 
 scope_tree v s (scope.Is t) = over_one (node.Is t) (leaf v)
 scope_tree v s (scope.IsIn t r) = over_two node.And (over_one (node.Is t) (leaf v)) (over_two node.In (leaf v) (leaf (reference_node s r)))
 
+-- The scope of the principal.
 abbrev pub principal_tree : PrincipalOrResourceConstraint → Tree ConditionNode
 principal_tree c = scope_tree node.Principal (node.Slot slot.Principal) c
 
+-- The scope of the resource.
 abbrev pub resource_tree : PrincipalOrResourceConstraint → Tree ConditionNode
 resource_tree c = scope_tree node.Resource (node.Slot slot.Resource) c
 
@@ -95,11 +101,13 @@ resource_tree c = scope_tree node.Resource (node.Slot slot.Resource) c
 abbrev pub set_tree : List EntityUID → Tree ConditionNode
 set_tree es = record { top = node.Set (length es); under = entities none es }
 
+-- The scope of the action.
 abbrev pub action_tree : ActionConstraint → Tree ConditionNode
 action_tree action.Any = leaf (node.Bool true)
 action_tree (action.In l) = over_two node.In (leaf node.Action) (set_tree (listed l))
 action_tree (action.Eq e) = over_two node.Eq (leaf node.Action) (leaf (node.Entity e))
 
+-- The constant, if there is one; else the clause of a number.
 abbrev pub constant_node : ℕ → Option Bool → ConditionNode
 constant_node n None = node.Clause n
 constant_node n (Some b) = node.Bool b

@@ -54,6 +54,7 @@ abbrev pub refusal_of : {X : Type 0} → Result X Refusal → Option (ℕ × Lis
 refusal_of (Ok x) = None
 refusal_of (Err e) = Some (number e, values e)
 
+-- The edge cases 1 to 5 and 7 of docs/RULES.md.
 pub record Edges : Type 0 where
   -- all any, no clause: one node, true
   pub all_any : nodes scope.Any action.Any scope.Any None ≡ node.Bool true ∷ []

@@ -11,6 +11,7 @@ EqualClauses cs None (Some b) = ⊥
 EqualClauses cs (Some a) None = ⊥
 EqualClauses cs (Some a) (Some b) = Same cs a b
 
+-- All fields of two templates are equal, the clauses by content.
 pub record EqualTemplates {C : Type 0} (cs : List (Clause C)) (a b : Template) : Type 0 where
   pub id : a.id ≡ b.id
   pub effect : a.effect ≡ b.effect
@@ -20,6 +21,7 @@ pub record EqualTemplates {C : Type 0} (cs : List (Clause C)) (a b : Template) :
   pub clause : EqualClauses cs a.clause b.clause
   pub slots : a.slots ≡ b.slots
 
+-- The templates, the link ids and the values of two policies are equal.
 pub record EqualPolicies {C : Type 0} (cs : List (Clause C)) (a b : Policy) : Type 0 where
   pub template : EqualTemplates cs a.template b.template
   pub link : a.link ≡ b.link

@@ -13,12 +13,14 @@ use Rattle.policy.specs.declared.template.Template.{Template}
 use Rattle.policy.specs.declared.bound.Policy.{Policy}
 use Rattle.policy.specs.Scopes.{ActionConstraint, kind, type_of, reference_of, listed}
 
+-- Whether two effects are the same.
 abbrev pub effect_equal : Effect → Effect → Bool
 effect_equal Permit Permit = true
 effect_equal Permit Forbid = false
 effect_equal Forbid Permit = false
 effect_equal Forbid Forbid = true
 
+-- Two references are equal when both are the slot, or entities that are equal.
 abbrev pub reference_equal : EntityReference → EntityReference → Bool
 reference_equal (EUID a) (EUID b) = entity_equal a b
 reference_equal (EUID a) Slot = false
@@ -32,6 +34,7 @@ option_equal same None (Some b) = false
 option_equal same (Some a) None = false
 option_equal same (Some a) (Some b) = same a b
 
+-- Scopes are equal when they are of one kind, with equal types and references.
 abbrev pub scope_equal : PrincipalOrResourceConstraint → PrincipalOrResourceConstraint → Bool
 scope_equal a b =
     (kind a == kind b)
@@ -49,6 +52,7 @@ action_equal (action.Eq e) action.Any = false
 action_equal (action.Eq e) (action.In l) = false
 action_equal (action.Eq e) (action.Eq f) = entity_equal e f
 
+-- The three scopes of two templates are equal.
 abbrev pub scopes_equal : Template → Template → Bool
 scopes_equal a b =
     scope_equal a.principal b.principal
@@ -62,6 +66,7 @@ template_equal same a b =
     && (scopes_equal a b
     && (option_equal same a.clause b.clause && a.slots.bits == b.slots.bits)))
 
+-- Both slots have equal values, or none.
 abbrev pub values_equal : SlotEnv → SlotEnv → Bool
 values_equal a b = option_equal entity_equal a.principal b.principal && option_equal entity_equal a.resource b.resource
 

@@ -18,16 +18,18 @@ abbrev pub value_of : SlotEnv → SlotId → Option EntityUID
 value_of env slot.Principal = env.principal
 value_of env slot.Resource = env.resource
 
--- The elements of a set come with the last first.
+-- The set of some values, which come with the last first.
 abbrev pub set_value : Value → List Value → Value
 set_value elements [] = elements
 set_value elements (v ∷ vs) = set_value (with_element v elements) vs
 
+-- An operator on one operand; an error where there are fewer or more.
 abbrev pub of_one : (Value → Value) → List Value → Value
 of_one f [] = error
 of_one f (a ∷ []) = f a
 of_one f (a ∷ (b ∷ vs)) = error
 
+-- An operator on two operands, which come with the last first; an error where there are fewer or more.
 abbrev pub of_two : (Value → Value → Value) → List Value → Value
 of_two f [] = error
 of_two f (b ∷ []) = error
@@ -55,6 +57,7 @@ module _ {C : Type 0} (evaluate : Evaluator C) (cs : List (Clause C)) (w : World
   row_values none = []
   row_values (more f n g) = node_value n (row_values g) ∷ row_values f
 
+  -- What a tree is worth.
   abbrev pub tree_value : Tree ConditionNode → Value
   tree_value t = node_value t.top (row_values t.under)
 

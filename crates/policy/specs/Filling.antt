@@ -15,6 +15,7 @@ fill_reference value (EUID e) = EUID e
 fill_reference None Slot = Slot
 fill_reference (Some e) Slot = EUID e
 
+-- A scope with its slot filled, where it refers to the slot and the slot has a value.
 abbrev pub fill : Option EntityUID → PrincipalOrResourceConstraint → PrincipalOrResourceConstraint
 fill value scope.Any = scope.Any
 fill value (scope.In r) = scope.In (fill_reference value r)
@@ -22,6 +23,7 @@ fill value (scope.Eq r) = scope.Eq (fill_reference value r)
 fill value (scope.Is t) = scope.Is t
 fill value (scope.IsIn t r) = scope.IsIn t (fill_reference value r)
 
+-- Whether what a scope refers to is its slot.
 abbrev pub is_slot : Option EntityReference → Bool
 is_slot None = false
 is_slot (Some (EUID e)) = false
@@ -31,6 +33,7 @@ is_slot (Some Slot) = true
 abbrev pub slotted : PrincipalOrResourceConstraint → Bool
 slotted s = is_slot (reference_of s)
 
+-- Each of two facts follows from the other.
 abbrev pub Iff : Type 0 → Type 0 → Type 0
 Iff A B = (A → B) × (B → A)
 

@@ -23,14 +23,17 @@ optional names (Some x) = names x
 abbrev pub entity_names : EntityUID → List ℕ
 entity_names e = e.ty ∷ e.eid ∷ []
 
+-- The names of entities, in order.
 abbrev pub entities_names : List EntityUID → List ℕ
 entities_names [] = []
 entities_names (e ∷ es) = entity_names e ++ entities_names es
 
+-- The names of what a scope refers to; a slot has none.
 abbrev pub reference_names : EntityReference → List ℕ
 reference_names (EUID e) = entity_names e
 reference_names Slot = []
 
+-- The type of `is`, then the names of what the scope refers to.
 abbrev pub scope_names : PrincipalOrResourceConstraint → List ℕ
 scope_names s = optional (λ t. t ∷ []) (type_of s) ++ optional reference_names (reference_of s)
 

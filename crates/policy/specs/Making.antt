@@ -43,9 +43,11 @@ abbrev pub reference_types : EntityReference → List ℕ
 reference_types (EUID e) = e.ty ∷ []
 reference_types Slot = []
 
+-- The type of `is`, then the type of the entity that the scope refers to.
 abbrev pub scope_types : PrincipalOrResourceConstraint → List ℕ
 scope_types s = optional (λ t. t ∷ []) (type_of s) ++ optional reference_types (reference_of s)
 
+-- The types of entities, in order.
 abbrev pub entities_types : List EntityUID → List ℕ
 entities_types [] = []
 entities_types (e ∷ es) = e.ty ∷ entities_types es

@@ -31,6 +31,7 @@ pub record Within (h : List Edge) (x : EntityUID) (o : Option EntityUID) : Type 
   pub refers : o ≡ Some there
   pub inside : In h x there
 
+-- The entity is one of the list.
 abbrev pub Member : EntityUID → List EntityUID → Type 0
 Member e [] = ⊥
 Member e (a ∷ es) = (e ≡ a) ⊎ Member e es
@@ -66,6 +67,7 @@ abbrev pub Evaluator : Type 0 → Type 0
 Evaluator C = C → World → SlotEnv → Value
 
 module _ {C : Type 0} (evaluate : Evaluator C) (cs : List (Clause C)) where
+  -- The worth of a clause that may be absent from the book: an error where it is.
   abbrev pub listed_value : World → SlotEnv → Option (Clause C) → Value
   listed_value w env None = error
   listed_value w env (Some c) = evaluate c.content w env

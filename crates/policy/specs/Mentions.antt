@@ -29,6 +29,7 @@ module _ {C : Type 0} (cs : List (Clause C)) (slot : SlotId) where
   mentions node.And = false
   mentions (node.Clause n) = has_bit slot (slots_of (at cs n))
 
+  -- Whether one of the nodes is the slot, or a clause that has it.
   abbrev pub mentioned : List ConditionNode → Bool
   mentioned [] = false
   mentioned (n ∷ ns) = mentions n || mentioned ns

@@ -37,10 +37,11 @@ reference_of (scope.IsIn t r) = Some r
 abbrev pub listed : ActionList → List EntityUID
 listed l = take l.count l.items
 
--- The scope of a template's action, and that of an action as it is given.
+-- The scope of a template's action.
 abbrev pub ActionConstraint : Type 0
 ActionConstraint = ActionIn ActionList
 
+-- The scope of an action as it is given to make a template: its list is lent.
 abbrev pub ActionScope : Type 0
 ActionScope = ActionIn (Bor (List EntityUID))
 

@@ -30,10 +30,12 @@ and_value (entity e) y = error
 and_value (set es) y = error
 and_value error y = error
 
+-- Whether an entity is one of a list.
 abbrev pub member : EntityUID → List EntityUID → Bool
 member e [] = false
 member e (a ∷ es) = entity_equal e a || member e es
 
+-- Whether each entity of the first list is one of the second.
 abbrev pub subset : List EntityUID → List EntityUID → Bool
 subset [] bs = true
 subset (a ∷ es) bs = member a bs && subset es bs
@@ -59,6 +61,7 @@ abbrev pub in_some : List Edge → EntityUID → List EntityUID → Bool
 in_some h e [] = false
 in_some h e (a ∷ es) = is_in h e a || in_some h e es
 
+-- `in` with an entity on the left.
 abbrev pub entity_in : List Edge → EntityUID → Value → Value
 entity_in h e (boolean b) = error
 entity_in h e (entity f) = boolean (is_in h e f)

@@ -41,6 +41,7 @@ pub fn linked(template: &Template, link: NameNumber, values: SlotEnv) -> Result<
 }
 
 impl Template {
+    // Refusals 1, of the template, of a link id if there is one and of the values; 2; then 12.
     fn tested_binding<B: ClauseBook>(
         &self,
         link: Option<NameNumber>,

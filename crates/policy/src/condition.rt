@@ -23,6 +23,7 @@ use names::kept::NameBook;
 use refusals::refusal::Refusal;
 use refusals::slots::SlotId;
 
+// What a scope refers to, as a node: an entity, or the slot that is given.
 fn reference(slot: ConditionNode, r: EntityReference) -> ConditionNode
     ensures { result ≡ reference_node slot r }
 {
@@ -70,6 +71,7 @@ fn write_scope(
     }
 }
 
+// Entities, each one node.
 fn write_entities(list: &mut NodeList, entities: &[EntityUID])
     requires { array_vec_len list.old + length entities.now ≤ 27 }
     ensures { Wrote list.old list.new (map Named entities.now) (length entities.now) }
@@ -79,6 +81,7 @@ fn write_entities(list: &mut NodeList, entities: &[EntityUID])
     }
 }
 
+// The action's scope.
 fn write_action(list: &mut NodeList, action: &ActionConstraint)
     requires { array_vec_len list.old + 11 ≤ 27 }
     ensures { Wrote list.old list.new (written (action_tree action.now)) 11 }

@@ -12,6 +12,7 @@ use clauses::book::ClauseBook;
 use names::kept::NameBook;
 use refusals::refusal::Refusal;
 
+// Whether both clauses are absent, or `same` says yes of them.
 fn clauses_equal<B: ClauseBook>(a: Option<u16>, b: Option<u16>, clauses: &B) -> bool
     ensures { result ≡ option_equal (same_clause B.ClauseBook.equal (B.ClauseBook.listed clauses.now)) a b }
 {
@@ -22,6 +23,7 @@ fn clauses_equal<B: ClauseBook>(a: Option<u16>, b: Option<u16>, clauses: &B) -> 
     }
 }
 
+// Whether the three scopes of two templates are equal.
 #[tactic(auto, using(crate::proofs::Derived::actions_alike, crate::proofs::Derived::scopes_alike))]
 fn scopes_equal(a: &Template, b: &Template) -> bool
     ensures { result ≡ scopes_equal a.now b.now }

@@ -15,6 +15,7 @@ use names::entity::EntityUID;
 use names::kept::NameBook;
 use refusals::refusal::Refusal;
 
+// The slot's value in place of the slot, if it has one; an entity stays.
 fn filled_reference(r: EntityReference, value: Option<EntityUID>) -> EntityReference
     ensures { result ≡ fill_reference value r }
 {
@@ -46,6 +47,7 @@ fn filled_scope(
     }
 }
 
+// Refusal 1 of a scope, then of a value.
 fn known_filling(
     count: usize,
     s: PrincipalOrResourceConstraint,

@@ -11,6 +11,7 @@ use names::entity::EntityUID;
 use refusals::NameNumber;
 use refusals::refusal::Refusal;
 
+// Refusal 1 of the type, then of the id.
 fn known_entity(count: usize, e: EntityUID) -> Result<(), Refusal>
     ensures { result ≡ names_known count (entity_names e) }
 {
@@ -18,6 +19,7 @@ fn known_entity(count: usize, e: EntityUID) -> Result<(), Refusal>
     known_name(count, e.eid)
 }
 
+// Refusal 1 of the entity that a scope refers to.
 fn known_reference(count: usize, r: EntityReference) -> Result<(), Refusal>
     ensures { result ≡ names_known count (reference_names r) }
 {
@@ -27,6 +29,7 @@ fn known_reference(count: usize, r: EntityReference) -> Result<(), Refusal>
     }
 }
 
+// Refusal 1 of the type of `is`, then of the entity that the scope refers to.
 pub fn known_scope(count: usize, s: PrincipalOrResourceConstraint) -> Result<(), Refusal>
     ensures { result ≡ names_known count (scope_names s) }
 {
@@ -36,6 +39,7 @@ pub fn known_scope(count: usize, s: PrincipalOrResourceConstraint) -> Result<(),
     s.reference().map_or(Ok(()), |r| known_reference(count, r))
 }
 
+// Refusal 1 of entities, in order.
 fn known_entities(count: usize, list: &[EntityUID]) -> Result<(), Refusal>
     ensures { result ≡ names_known count (entities_names list.now) }
 {
@@ -45,7 +49,7 @@ fn known_entities(count: usize, list: &[EntityUID]) -> Result<(), Refusal>
     Ok(())
 }
 
-// The names of a template in record order.
+// Refusal 1 of the names of a template, in record order.
 pub fn known_names(count: usize, t: &Template) -> Result<(), Refusal>
     ensures { result ≡ names_known count (template_names t.now) }
 {
@@ -55,12 +59,14 @@ pub fn known_names(count: usize, t: &Template) -> Result<(), Refusal>
     known_scope(count, t.resource)
 }
 
+// Refusal 1 of a value, if there is one.
 pub fn known_value(count: usize, value: Option<EntityUID>) -> Result<(), Refusal>
     ensures { result ≡ names_known count (optional entity_names value) }
 {
     value.map_or(Ok(()), |e| known_entity(count, e))
 }
 
+// Refusal 1 of the principal's value, then of the resource's.
 pub fn known_values(count: usize, values: SlotEnv) -> Result<(), Refusal>
     ensures { result ≡ names_known count (values_names values) }
 {
@@ -68,13 +74,14 @@ pub fn known_values(count: usize, values: SlotEnv) -> Result<(), Refusal>
     known_value(count, values.resource)
 }
 
+// Refusal 1 of a link id, if there is one.
 fn known_link(count: usize, link: Option<NameNumber>) -> Result<(), Refusal>
     ensures { result ≡ names_known count (optional (λ n. n ∷ []) link) }
 {
     link.map_or(Ok(()), |id| known_name(count, id))
 }
 
-// The names of a template, of a link id if there is one, and of values.
+// Refusal 1 of the names of a template, of a link id if there is one, and of values.
 pub fn known_parts(
     count: usize,
     template: &Template,
@@ -88,13 +95,14 @@ pub fn known_parts(
     known_values(count, values)
 }
 
-// The names of a policy in record order.
+// Refusal 1 of the names of a policy, in record order.
 pub fn known_policy_names(count: usize, p: &Policy) -> Result<(), Refusal>
     ensures { result ≡ names_known count (policy_names p.now) }
 {
     known_parts(count, &p.template, p.link, p.values)
 }
 
+// Refusal 2 of a clause, if there is one.
 pub fn known_clause<B: ClauseBook>(clauses: &B, clause: Option<u16>) -> Result<(), Refusal>
     ensures { result ≡ clause_known (B.ClauseBook.listed clauses.now) clause }
 {

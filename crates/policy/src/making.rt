@@ -52,6 +52,7 @@ fn action_of(action: ActionScope<'_>) -> Result<ActionConstraint, Refusal>
     }
 }
 
+// Refusal 5 of the type of the entity that a scope refers to.
 // One walk with these and the `known_..` functions is no plainer: each visits other names, by its own list of them.
 fn kept_reference(names: &NameBook, r: EntityReference) -> Result<(), Refusal>
     ensures { result ≡ types_kept (texts names.now) (reference_types r) }
@@ -62,6 +63,7 @@ fn kept_reference(names: &NameBook, r: EntityReference) -> Result<(), Refusal>
     }
 }
 
+// Refusal 5 of the type of `is`, then of the type of the entity that the scope refers to.
 fn kept_scope(names: &NameBook, s: PrincipalOrResourceConstraint) -> Result<(), Refusal>
     ensures { result ≡ types_kept (texts names.now) (scope_types s) }
 {
@@ -71,6 +73,7 @@ fn kept_scope(names: &NameBook, s: PrincipalOrResourceConstraint) -> Result<(), 
     s.reference().map_or(Ok(()), |r| kept_reference(names, r))
 }
 
+// Refusal 5 of the types of entities, in order.
 fn kept_entities(names: &NameBook, list: &[EntityUID]) -> Result<(), Refusal>
     ensures { result ≡ types_kept (texts names.now) (entities_types list.now) }
 {
@@ -80,7 +83,7 @@ fn kept_entities(names: &NameBook, list: &[EntityUID]) -> Result<(), Refusal>
     Ok(())
 }
 
-// The type names of a template in record order.
+// Refusal 5 of the types of a template, in record order.
 fn kept_types(names: &NameBook, t: &Template) -> Result<(), Refusal>
     ensures { result ≡ types_kept (texts names.now) (template_types t.now) }
 {

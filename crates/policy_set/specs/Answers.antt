@@ -44,6 +44,7 @@ reverse_set t m = filter (is_under t) m.members
 abbrev pub empty : Maps
 empty = record { templates = []; policies = []; members = [] }
 
+-- Whether a list is empty.
 abbrev pub no_rows : {X : Type 0} → List X → Bool
 no_rows [] = true
 no_rows (x ∷ xs) = false
@@ -79,6 +80,7 @@ add_template_answer names cs m t =
 abbrev pub with_template : Template → Maps → Maps
 with_template t m = record { templates = m.templates ++ t ∷ []; policies = m.policies; members = m.members }
 
+-- The maps after `add_template`.
 abbrev pub add_template_after : {C : Type 0} → ℕ → List (Clause C) → Maps → Template → Maps
 add_template_after names cs m t = if_accepted (add_template_answer names cs m t) (with_template t m) m
 
@@ -109,6 +111,7 @@ id_of p = elim p.link [ None ↦ p.template.id | Some id ↦ id ]
 abbrev pub row_for : Parts → PolicyRow
 row_for p = record { id = id_of p; template = p.template.id; link = is_some p.link; values = p.values }
 
+-- The maps after `add_static`.
 abbrev pub add_static_after : {C : Type 0} → ℕ → List (Clause C) → Maps → Template → Maps
 add_static_after names cs m t = if_accepted (add_static_answer names cs m t) (with_policy (row_for (static_parts t)) (with_template t m)) m
 
@@ -145,6 +148,7 @@ add_answer names cs same m p =
 abbrev pub with_or_inserted : Template → Maps → Maps
 with_or_inserted t m = record { templates = or_inserted template_id t m.templates; policies = m.policies; members = m.members }
 
+-- The maps after `add`.
 abbrev pub add_after : {C : Type 0} → ℕ → List (Clause C) → (ℕ → ℕ → Bool) → Maps → Policy → Maps
 add_after names cs same m p = if_accepted (add_answer names cs same m p) (with_policy (row_for (parts p)) (with_or_inserted p.template m)) m
 
@@ -167,6 +171,7 @@ link_answer names m template new values =
 abbrev pub link_row : ℕ → ℕ → SlotEnv → PolicyRow
 link_row template new values = record { id = new; template = template; link = true; values = values }
 
+-- The maps after `link`.
 abbrev pub link_after : ℕ → Maps → ℕ → ℕ → SlotEnv → Maps
 link_after names m template new values = if_accepted (link_answer names m template new values) (with_policy (link_row template new values) m) m
 
@@ -185,6 +190,7 @@ without_policy id m = record {
   members = erase member_id id m.members;
 }
 
+-- The maps after `unlink`.
 abbrev pub unlink_after : ℕ → Maps → ℕ → Maps
 unlink_after names m id = if_accepted (unlink_answer names m id) (without_policy id m) m
 
@@ -210,6 +216,7 @@ abbrev pub static_removed : ℕ → Option Parts → Bool → Maps → Maps
 static_removed id None in-templates m = m
 static_removed id (Some p) in-templates m = cond in-templates (without_template id (without_policy id m)) (policy_last id m)
 
+-- The maps after `remove_static`: they change at 17 too.
 abbrev pub remove_static_after : ℕ → Maps → ℕ → Maps
 remove_static_after names m id = if_accepted (names_known names (id ∷ [])) (static_removed id (in_force m id) (is_some (template_at m id)) m) m
 
@@ -221,5 +228,6 @@ remove_template_answer names m id =
     (found_then (RemoveTemplateNoTemplateError id) (template_at m id)
     (λ t. cond (no_rows (reverse_set id m)) (Ok t) (Err (RemoveTemplateWithLinksError id)))))
 
+-- The maps after `remove_template`.
 abbrev pub remove_template_after : ℕ → Maps → ℕ → Maps
 remove_template_after names m id = if_accepted (remove_template_answer names m id) (without_template id m) m

@@ -42,6 +42,7 @@ abbrev pub after_these : List Renaming → Option (List Renaming) → Option (Li
 after_these ps None = None
 after_these ps (Some qs) = Some (ps ++ qs)
 
+-- An old and a new id.
 abbrev pub pair : ℕ → ℕ → Renaming
 pair i k = record { old = i; new = k }
 

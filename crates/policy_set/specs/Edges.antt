@@ -43,6 +43,7 @@ no_values = record { principal = None; resource = None }
 abbrev one_static : Maps
 one_static = add_static_after 2 one_clause empty (slotless scope.Any action.Any scope.Any None)
 
+-- The edge cases of docs/RULES.md, under their numbers there.
 pub record Edges : Type 0 where
   -- 1: all any, no clause: one node, true
   pub all_any : nodes scope.Any action.Any scope.Any None ≡ node.Bool true ∷ []

@@ -80,11 +80,13 @@ pub data Thing : Type 0 where
   template : Template → Thing
   policy : Parts → Thing
 
+-- What an id names, by the template and the policy under it: with both it is a static policy.
 abbrev pub thing : Option Template → Option Parts → Thing
 thing None None = nothing
 thing (Some t) None = template t
 thing None (Some p) = policy p
 thing (Some t) (Some p) = policy p
 
+-- What an id names in a set.
 abbrev pub named : Maps → ℕ → Thing
 named m k = thing (template_at m k) (in_force m k)

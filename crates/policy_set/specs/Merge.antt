@@ -83,6 +83,7 @@ old_id p = p.old
 abbrev pub new_id : Renaming → ℕ
 new_id p = p.new
 
+-- The new id of a pair, or the id itself where there is no pair.
 abbrev pub new_or : ℕ → Option Renaming → ℕ
 new_or i None = i
 new_or i (Some p) = p.new
@@ -91,6 +92,7 @@ new_or i (Some p) = p.new
 abbrev pub final : List Renaming → ℕ → ℕ
 final pairs i = new_or i (lookup old_id i pairs)
 
+-- The old id of a pair, or what is given where there is no pair.
 abbrev pub old_or : Option ℕ → Option Renaming → Option ℕ
 old_or o None = o
 old_or o (Some p) = Some p.old
@@ -129,7 +131,7 @@ renamed_thing f nothing = nothing
 renamed_thing f (template t) = template (renamed_template f t)
 renamed_thing f (policy p) = policy (renamed_policy f p)
 
--- The live maps after a merge: each incoming row goes in last, under its final ids, in the place of one with its id.
+-- The live maps after a merge: each incoming row goes in last, under its final ids, and a row with its id goes out.
 abbrev pub merged : (ℕ → ℕ) → Maps → Maps → Maps
 merged f live incoming = record {
   templates = put_all template_id (renamed_template f) live.templates incoming.templates;

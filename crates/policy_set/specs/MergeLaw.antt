@@ -19,6 +19,7 @@ clash same live incoming k = bound live k && (bound incoming k && not (things_eq
 abbrev pub GathersClashes : (ℕ → ℕ → Bool) → Maps → Maps → Type 0
 GathersClashes same live incoming = (k : ℕ) → among k (gathered same live incoming) ≡ clash same live incoming k
 
+-- The old ids of pairs, in order.
 abbrev pub old_ids : List Renaming → List ℕ
 old_ids [] = []
 old_ids (p ∷ ps) = p.old ∷ old_ids ps
@@ -29,6 +30,7 @@ pub record Chosen (same : ℕ → ℕ → Bool) (live incoming : Maps) (pairs : 
   pub distinct : Once new_id pairs
   pub free : (k : ℕ) (p : Renaming) → lookup new_id k pairs ≡ Some p → (bound live k ≡ false) × (bound incoming k ≡ false)
 
+-- What the final ids of the incoming ids are like; f gives the final id of each.
 pub record FinalIds (same : ℕ → ℕ → Bool) (live incoming : Maps) (f : ℕ → ℕ) : Type 0 where
   -- distinct incoming ids have distinct final ids
   pub distinct : (i j : ℕ) → bound incoming i ≡ true → bound incoming j ≡ true → f i ≡ f j → i ≡ j

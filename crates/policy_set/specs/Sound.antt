@@ -26,6 +26,7 @@ abbrev pub valued : Maps → Option PolicyRow → Bool
 valued m None = true
 valued m (Some r) = passes (λ t. nat_eq (value_slots r.values) t.slots.bits) (template_at m r.template)
 
+-- The scopes of a template that may be absent keep to its slots.
 abbrev pub scoped : Option Template → Bool
 scoped None = true
 scoped (Some t) = scopes_within t
@@ -57,7 +58,7 @@ SameMembers m = (k : ℕ) → same_member (member_at m k) (row_at m k) ≡ true
 abbrev pub member : PolicyRow → Member
 member r = record { policy = r.id; template = r.template }
 
--- The same in words.
+-- What every policy set keeps, in words.
 pub record Sound (m : Maps) : Type 0 where
   pub templates_once : Once template_id m.templates
   pub policies_once : Once policy_id m.policies

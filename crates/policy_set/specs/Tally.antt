@@ -35,6 +35,7 @@ abbrev pub granted : (ℕ → ℕ → Bool) → (ℕ → ℕ) → Account → Op
 granted same f a mine None = a
 granted same f a mine (Some p) = cond (holds_equal same p mine) a (grant a (renamed_policy f p))
 
+-- The account of a final id k after a merge, where i is the incoming id that it comes from, if any.
 abbrev pub granted_from : (ℕ → ℕ → Bool) → (ℕ → ℕ) → Tally → Tally → ℕ → Option ℕ → Account
 granted_from same f live incoming k None = live k
 granted_from same f live incoming k (Some i) = granted same f (live k) (held (live i)) (held (incoming i))
@@ -44,7 +45,7 @@ granted_from same f live incoming k (Some i) = granted same f (live k) (held (li
 abbrev pub merge_tally : (ℕ → ℕ → Bool) → List Renaming → Tally → Tally → Tally
 merge_tally same pairs live incoming k = granted_from same (final pairs) live incoming k (origin pairs k)
 
--- The two rules of that tally.
+-- The same by two rules; that the tally above follows them is the lemma `grants_after` of proofs/Tallies.antt.
 pub record GrantsAfter (same : ℕ → ℕ → Bool) (f : ℕ → ℕ) (live incoming after : Tally) : Type 0 where
   -- what the incoming tally holds, and the live one holds no equal of under that id, is granted under its final ids
   pub granted : (i : ℕ) (p : Parts) → held (incoming i) ≡ Some p → holds_equal same p (held (live i)) ≡ false

@@ -1,5 +1,5 @@
 // Finding, appending, removing, moving last and putting, once for every kind of row.
-// The project's rule: finding, appending, removing and moving last are written over slices, so the count stands beside.
+// They are written over slices, so that one proof of each serves every table; the count of used rows stands beside.
 ghost use Rattle.std.specs.Prelude.{◌≡◌, ℕ, ◌+◌, ◌-◌, ◌<◌, ◌≤◌, ◌==◌, [], ◌∷◌, ◌++◌, length, take, drop, position, None};
 ghost use Rattle.policy_set.specs.Tables.{without, erase, lookup, put_last};
 
@@ -7,6 +7,7 @@ use refusals::NameNumber;
 
 // A row whose key is the number of a name.
 pub(crate) trait Keyed {
+    // The key, as a function on rows.
     ghost naming: { Self → ℕ };
 
     // The key of the row.
@@ -62,7 +63,7 @@ pub(crate) fn remove<R: Keyed + Copy>(rows: &mut [R], used: usize, key: NameNumb
     used - 1
 }
 
-// Puts the row last among the first `used`, in the place of one with its key. The new count.
+// Puts the row last among the first `used`; a row with its key goes out. The new count.
 pub(crate) fn put<R: Keyed + Copy>(rows: &mut [R], used: usize, row: R) -> usize
     requires used { used ≤ length rows.old }
     requires room { lookup R.naming (R.naming row) (take used rows.old) ≡ None → used < length rows.old }

@@ -8,7 +8,7 @@ pub(crate) mod calls;
 pub(crate) mod puts;
 
 // The first `used` places hold the rows.
-// The project's rule: finding, appending, removing and moving last are written over slices, so the count stands beside.
+// An array and a count, since finding, appending, removing and moving last are written over slices, in `keyed`.
 #[derive(Drop)]
 pub(crate) struct Table<R: Keyed + Drop, const PLACES: usize> {
     rows: [R; PLACES],

@@ -14,6 +14,7 @@ has_bit slot bits = not (bit_and bits (slot_bit slot) == 0)
 abbrev pub has : SlotId → SlotSet → Bool
 has slot s = has_bit slot s.bits
 
+-- Whether two slots are the same.
 abbrev pub slot_equal : SlotId → SlotId → Bool
 slot_equal Principal Principal = true
 slot_equal Principal Resource = false

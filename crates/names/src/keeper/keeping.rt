@@ -31,6 +31,7 @@ impl<T: Copy> Pieces<T> {
         self.ends.len()
     }
 
+    // Where the piece of a number starts.
     fn start(&self, n: usize) -> usize
         requires { n < vec_len self.now.ends }
         ensures { result ≡ start_of 0 self.now.ends.items n }

@@ -11,7 +11,7 @@ use refusals::NameNumber;
 // As many ids as four passes over two full tables can note.
 pub(crate) const PLACES: usize = 640;
 
-// Whether an id is among ids: a call of its own, since of a vector's slice the check doesn't find `among`.
+// Whether an id is among ids: a function of its own, since the check does not find `among` for the slice of a vector.
 fn contains(ids: &[NameNumber], id: NameNumber) -> bool
     ensures { result ≡ among id ids.now }
 {

@@ -17,6 +17,7 @@ fn final_id(pairs: &[Renaming], id: NameNumber) -> NameNumber
 
 // A row that can go in under other ids.
 pub(crate) trait Renamed: Keyed + Sized {
+    // A row under other ids, by a function on ids.
     ghost renamed: { (ℕ → ℕ) → Self → Self };
 
     // The row under its final ids.
@@ -60,7 +61,7 @@ impl Renamed for Member {
 }
 
 // Puts each incoming row last among the first `used`, under its final ids. The new count.
-// The project's rule: finding, appending, removing and moving last are written over slices, so the count stands beside.
+// Over a slice, as in `keyed`; the count of used rows stands beside.
 pub(crate) fn put_all<R: Renamed + Copy>(
     rows: &mut [R],
     used: usize,

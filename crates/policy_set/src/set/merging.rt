@@ -107,8 +107,8 @@ impl PolicySet {
         self.members.put_all(&incoming.members, pairs);
     }
 
-    // Names and clauses stay two parameters: a merge writes the one and reads the other.
     // Merges the incoming set into this one. The pairs go into the first places of the buffer; their count is the answer.
+    // Names and clauses stay two parameters: a merge writes the one and reads the other.
     pub fn merge_policyset<B: ClauseBook>(
         &mut self,
         incoming: &PolicySet,
