@@ -1,4 +1,4 @@
-ghost use Rattle.std.specs.Prelude.{◌≡◌, ℕ, ◌+◌, ◌<◌, ◌≤◌, List, [], ◌∷◌, ◌++◌, map, length};
+ghost use Rattle.std.specs.Prelude.{◌≡◌, ℕ, ◌+◌, ◌<◌, ◌≤◌, List, [], ◌∷◌, ◌++◌, map, length, IfOk};
 ghost use Rattle.arrayvec.specs.ArrayVec.{array_vec_len};
 ghost use Rattle.names.specs.Book.{texts};
 ghost use Rattle.clauses.specs.Tree.{written, One};
@@ -148,6 +148,7 @@ fn written_condition<B: ClauseBook>(t: &Template, clauses: &B) -> NodeList
 fn copy_out(nodes: &[ConditionNode], buffer: &mut [ConditionNode]) -> Result<usize, Refusal>
     ensures answer { result ≡ fitted nodes.now (length buffer.old) }
     ensures buffer { buffer.new ≡ buffer_after nodes.now buffer.old result }
+    ensures all { IfOk result (λ count. count ≡ length nodes.now) }
 {
     let needed = nodes.len();
     if buffer.len() < needed {
@@ -167,6 +168,7 @@ impl Template {
     ) -> Result<usize, Refusal>
         ensures answer { result ≡ condition_answer (length (texts names.now)) (B.ClauseBook.listed clauses.now) self.now (length buffer.old) }
         ensures buffer { buffer.new ≡ buffer_after (written (condition_tree (B.ClauseBook.listed clauses.now) self.now)) buffer.old result }
+        ensures few { IfOk result (λ count. count ≤ 27) }
         ensures one_tree { One arity (written (condition_tree (B.ClauseBook.listed clauses.now) self.now)) }
         ensures means { Means (B.ClauseBook.listed clauses.now) self.now }
         ensures hierarchy { InDecided }

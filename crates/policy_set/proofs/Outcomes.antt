@@ -1,6 +1,7 @@
 -- What the outcome of a merge tells: how few ids are gathered, and that those chosen are as they should be.
-use Rattle.std.proofs.Common.{◌≡◌, ℕ, ◌+◌, ◌≤◌, Bool, true, false, not, ◌&&◌, ltb, min, List, get_or, [], ◌∷◌, length, is_some, Ok, Result, sym, refl, ap, ◌∙◌, subst, arith}
+use Rattle.std.proofs.Common.{◌≡◌, ℕ, suc, ◌+◌, ◌≤◌, Bool, true, false, not, ◌&&◌, ltb, min, List, get_or, [], ◌∷◌, length, is_some, Ok, Result, sym, refl, ap, ◌∙◌, subst, arith}
 use Rattle.std.proofs.Math.Nat.{min-eq_left, min-eq_right}
+use Rattle.std.proofs.lemmas.List.{length-take}
 use Rattle.std.proofs.lemmas.Bool.{false≢true, eq-eqb, ltb-true, ltb-false, le-ltb, and_parts}
 use Rattle.refusals.specs.declared.refusal.Refusal.{Refusal}
 use Rattle.refusals.specs.declared.refusal.Refusal.TheVariants.{Occupied, ShortBuffer}
@@ -8,17 +9,20 @@ use Rattle.names.specs.Names.{Limits}
 use Rattle.policy.specs.Known.{and_then}
 use Rattle.policy_set.specs.declared.rows.Renaming.{Renaming}
 use Rattle.policy_set.specs.Tables.{lookup, one_if, erase, Once}
+use Rattle.policy_set.specs.declared.set.PolicySet.{PolicySet}
 use Rattle.policy_set.specs.Maps.{Maps, bound}
+use Rattle.policy_set.specs.Meaning.{maps_of}
 use Rattle.policy_set.specs.Sound.{Sound}
 use Rattle.policy_set.specs.Answers.{refuse_if}
 use Rattle.policy_set.specs.Merge.{among, gathered}
-use Rattle.policy_set.specs.MergeLaw.{clash, Chosen}
+use Rattle.policy_set.specs.MergeLaw.{clash, old_ids, Chosen}
 use Rattle.policy_set.specs.MergeCall.{merge_outcome}
 use Rattle.policy_set.proofs.Lookups.{once_tail, once_head, none_times}
 use Rattle.policy_set.proofs.PutAll.{head_there, rest_there}
 use Rattle.policy_set.proofs.Gathered.{itself, gathered_times}
 use Rattle.policy_set.proofs.NameSearch.{length_less, among-rest, ids_of, length_ids, among_ids}
 use Rattle.policy_set.proofs.MergeSteps.{ready}
+use Rattle.policy_set.proofs.Sets.{sound}
 
 -- distinct ids that are all among these are no more than these
 no_more : (xs ys : List ℕ) → Once itself xs → ((k : ℕ) → is_some (lookup itself k xs) ≡ true → among k ys ≡ true) → length xs ≤ length ys
@@ -75,3 +79,22 @@ room_enough limits texts same live incoming rename room sl si ts ps =
 pub chosen_pairs : (limits : Limits) (texts : List (List ℕ)) (same : ℕ → ℕ → Bool) (live incoming : Maps) (rename : Bool) (room : ℕ) (pairs : List Renaming) → Sound live → Sound incoming
     → Ok pairs ≡ merge_outcome limits texts same live incoming rename room → Chosen same live incoming pairs
 chosen_pairs limits texts same live incoming rename room pairs sl si e = (ready limits texts same live incoming rename room pairs sl si e).merges.chosen
+
+-- a pair for each gathered id
+old_ids_length : (ps : List Renaming) → length (old_ids ps) ≡ length ps
+old_ids_length [] = refl
+old_ids_length (p ∷ ps) = ap suc (old_ids_length ps)
+
+-- so a merge of two sets has few
+pub few_pairs : (live incoming : PolicySet) (same : ℕ → ℕ → Bool) (pairs : List Renaming) → Chosen same (maps_of live) (maps_of incoming) pairs → length pairs ≤ 320
+few_pairs live incoming same pairs ch =
+    omega (
+      arith,
+      old_ids_length pairs,
+      ap length ch.olds,
+      gathered_few same (maps_of live) (maps_of incoming) (sound live) (sound incoming),
+      length-take incoming.templates.used incoming.templates.rows,
+      incoming.templates.room,
+      length-take incoming.policies.used incoming.policies.rows,
+      incoming.policies.room,
+    )

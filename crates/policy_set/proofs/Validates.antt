@@ -19,7 +19,6 @@ use Rattle.clauses.specs.Book.{Clause, Lawful, at, slots_of}
 use Rattle.policy.specs.Slots.{has, slots_where, first_slot}
 use Rattle.policy.specs.Mentions.{clause_has}
 use Rattle.refusals.proofs.Sets.{has_where}
-use Rattle.refusals.specs.declared.slots.SlotSet.{SlotSet}
 use Rattle.refusals.specs.declared.slots.SlotId.TheVariants.{Principal, Resource}
 use Rattle.policy.specs.Scopes.{actions_of}
 use Rattle.policy.specs.declared.template.Template.{Template}

@@ -1,5 +1,5 @@
 -- Tables as lists of rows that have a number as their key.
-use Rattle.std.specs.Prelude.{ℕ, ◌+◌, ◌≤◌, Bool, cond, ◌||◌, List, [], ◌∷◌, ◌++◌, length, take, drop, is_some, Some, None, Option, ◌==◌, nat_lt}
+use Rattle.std.specs.Prelude.{ℕ, ◌+◌, ◌≤◌, Bool, cond, List, [], ◌∷◌, ◌++◌, length, take, drop, is_some, Some, None, Option, ◌==◌, nat_lt}
 
 -- The first row with the key.
 abbrev pub lookup : {X : Type 0} → (X → ℕ) → ℕ → List X → Option X
@@ -40,10 +40,6 @@ or_inserted key x xs = cond (is_some (lookup key (key x) xs)) xs (xs ++ x ∷ []
 -- There is room for one row more.
 abbrev pub has_room : {X : Type 0} → ℕ → List X → Bool
 has_room limit xs = nat_lt (length xs) limit
-
--- The row has a place: one with its key is there, or there is room for one more.
-abbrev pub has_place : {X : Type 0} → (X → ℕ) → ℕ → X → List X → Bool
-has_place key limit x xs = is_some (lookup key (key x) xs) || has_room limit xs
 
 -- 1 for yes, 0 for no.
 abbrev pub one_if : Bool → ℕ

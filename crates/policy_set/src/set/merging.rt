@@ -122,6 +122,7 @@ impl PolicySet {
         ensures buffer { pairs.exit.now ≡ merge_buffer (merge_outcome (limits_of names.old) (texts_of names.old) (same_clause B.ClauseBook.equal (B.ClauseBook.listed clauses.now)) (maps_of self.old) (maps_of incoming.now) rename_duplicates (length pairs.entry.now)) pairs.entry.now }
         ensures texts { texts_of names.new ≡ merge_texts (merge_outcome (limits_of names.old) (texts_of names.old) (same_clause B.ClauseBook.equal (B.ClauseBook.listed clauses.now)) (maps_of self.old) (maps_of incoming.now) rename_duplicates (length pairs.entry.now)) (texts_of names.old) (same_clause B.ClauseBook.equal (B.ClauseBook.listed clauses.now)) (maps_of self.old) (maps_of incoming.now) }
         ensures limits { limits_of names.new ≡ limits_of names.old }
+        ensures few { IfOk result (λ count. count ≤ 320) }
         ensures law { Merging (same_clause B.ClauseBook.equal (B.ClauseBook.listed clauses.now)) (maps_of self.old) (maps_of incoming.now) (maps_of self.new) pairs.exit.now result }
         ensures new_names { IfOk result (λ n. ReadsBack (texts_of names.new) (take n pairs.exit.now)) }
         ensures finds_names { FindsNames (limits_of names.old) (texts_of names.old) (same_clause B.ClauseBook.equal (B.ClauseBook.listed clauses.now)) (maps_of self.old) (maps_of incoming.now) result }

@@ -1,4 +1,4 @@
-use Rattle.std.proofs.Common.{ℕ, List, length, Result, sym, refl, ap, ◌∙◌}
+use Rattle.std.proofs.Common.{ℕ, List, length, Result, sym, refl, ap, ◌∙◌, rules}
 use Rattle.refusals.specs.declared.refusal.Refusal.{Refusal}
 use Rattle.clauses.specs.Book.{Clause}
 use Rattle.clauses.specs.Tree.{written, One}
@@ -24,6 +24,7 @@ returns-in_err-known_template g c =
     record {
       answer = e ∙ stops _ (c.in_err-known_template.ensures ∙ ap (λ (n : ℕ). template_known n cs t) c.count.ensures.count);
       buffer = ap (λ (r : Result ℕ Refusal). buffer_after (written (condition_tree cs t)) c.args.buffer.now r) (sym e);
+      few = search rules;
       one_tree = one_tree cs t;
       means = means cs t;
       hierarchy = in_decided;
@@ -40,6 +41,7 @@ returns g c =
           ∙ ap (λ (ns : List ConditionNode). fitted ns (length c.args.buffer.now)) same
           ∙ passes _ (c.in_ok-known_template.ensures ∙ ap (λ (n : ℕ). template_known n cs t) c.count.ensures.count);
       buffer = c.copy_out.ensures.buffer ∙ ap (λ (ns : List ConditionNode). buffer_after ns c.args.buffer.now c.copy_out.result) same;
+      few = search rules;
       one_tree = one_tree cs t;
       means = means cs t;
       hierarchy = in_decided;

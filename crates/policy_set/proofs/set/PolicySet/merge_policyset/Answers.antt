@@ -13,6 +13,7 @@ use Rattle.policy_set.specs.Choice.{candidates, enter_all, ReadsBack}
 use Rattle.policy_set.specs.MergeCall.{merge_outcome, merge_answer, merge_texts, news_for, Holdable}
 use Rattle.policy_set.specs.MergeLaw.{Merges}
 use Rattle.policy_set.proofs.MergeSteps.{Ready, ready, few_rows, first_part}
+use Rattle.policy_set.proofs.Outcomes.{few_pairs}
 use Rattle.policy_set.proofs.Sets.{sound}
 use Rattle.policy_set.proofs.set.PolicySet.merge_policyset.Goals as goal
 
@@ -66,6 +67,12 @@ returns-clause-law g c =
     c.apply.ensures ∙ ap (λ (ps : List Renaming). merged (final ps) live inc) c.deref.ensures.0 in
     subst (λ (ps : List Renaming). Merges same live inc (maps_of c.apply.new.self) ps) (sym (first_pairs g c))
     (subst (λ (m : Maps). Merges same live inc m c.in_ok-plan.plan.pairs.items) (sym a) r.merges)
+
+pub returns-clause-few : goal.returns-clause-few
+returns-clause-few g c =
+    let same = same_clause g.B.ClauseBook.equal (g.B.ClauseBook.listed c.args.clauses.now) in
+    let r = accepted c.args.self.now c.args.incoming.now same c.args.names.now c.args.rename_duplicates (length c.args.pairs.now) c.in_ok-plan.plan.pairs.items c.in_ok-plan.ensures.value in
+    omega (arith, c.len.ensures.value, few_pairs c.args.self.now c.args.incoming.now same c.in_ok-plan.plan.pairs.items r.merges.chosen)
 
 pub returns-clause-new_names : goal.returns-clause-new_names
 returns-clause-new_names g c =
