@@ -1,5 +1,6 @@
 //! A name book with the limits of docs/RULES.md. The Rust has none: ids are strings there.
-use crate::stop::{Answer, Stop::Outside};
+use crate::stop::Answer;
+use crate::stop::Stop::Outside;
 use std::collections::HashMap;
 
 const LONGEST: usize = 64;

@@ -1,16 +1,11 @@
 //! Lines on sets, and which line asks for which call.
 use crate::ast::*;
 use crate::print::{listing, pair_word, scope_word, values_words};
-use crate::stop::{
-    Answer, Stop,
-    Stop::{NoCall, Outside, Refused},
-};
+use crate::stop::Stop::{NoCall, Refused};
+use crate::stop::{Answer, Stop};
 use crate::texts::encode_id;
 use crate::world::{bits, World};
 use std::sync::Arc;
-
-const MOST_TEMPLATES: usize = 64;
-const MOST_POLICIES: usize = 256;
 
 /// What a binding is refused with.
 fn linking(e: LinkingError) -> (u8, String) {
@@ -34,18 +29,6 @@ fn linking(e: LinkingError) -> (u8, String) {
 fn refused_linking(e: LinkingError) -> Stop {
     let (n, values) = linking(e);
     Refused(n, values)
-}
-
-/// Whether a set has grown past its limits: 27.
-pub fn within_limits(set: &PolicySet) -> Answer<()> {
-    let (templates, policies, _) = set.peek();
-    if templates.len() > MOST_TEMPLATES {
-        return Err(Outside(27, "templates".to_string()));
-    }
-    if policies.len() > MOST_POLICIES {
-        return Err(Outside(27, "policies".to_string()));
-    }
-    Ok(())
 }
 
 /// Whether `add` of a link would make one id name two things: 26, its three cases in order.
@@ -103,7 +86,7 @@ impl World {
 
     /// What an accepted call leaves, if the limits allow it.
     fn keep(&mut self, set: usize, after: PolicySet) -> Answer<()> {
-        within_limits(&after)?;
+        self.refuse_beyond_limits(&after)?;
         self.sets[set] = after;
         Ok(())
     }
@@ -126,7 +109,7 @@ impl World {
             return Err(self.refused(set, after, 10, encode_id(id)));
         }
         if slotless {
-            return Err(Outside(25, encode_id(id)));
+            self.refuse(25, encode_id(id))?;
         }
         self.keep(set, after)?;
         Ok("ok".to_string())
@@ -178,10 +161,10 @@ impl World {
             return Err(self.refused(set, after, 10, encode_id(id)));
         }
         if link && slotless {
-            return Err(Outside(25, encode_id(template)));
+            self.refuse(25, encode_id(&template))?;
         }
         if let Some(id) = crossed(&self.sets[set], &id, &template).filter(|_| link) {
-            return Err(Outside(26, encode_id(id)));
+            self.refuse(26, encode_id(id))?;
         }
         self.keep(set, after)?;
         Ok("ok".to_string())
@@ -200,7 +183,7 @@ impl World {
             }
         };
         if p.template().is_static() {
-            return Err(Outside(25, encode_id(template)));
+            self.refuse(25, encode_id(template))?;
         }
         self.keep(set, after)?;
         Ok(format!(

@@ -1,13 +1,11 @@
 //! Lines that enter clauses, and conditions.
 use crate::ast::*;
 use crate::print::listing;
-use crate::stop::{
-    Answer,
-    Stop::{NoCall, Outside},
-};
+use crate::stop::Answer;
+use crate::stop::Stop::{NoCall, Outside};
+use crate::texts;
 use crate::texts::{
-    crate_refuses, decode, encode, encode_entity, encode_type, keeps_type_rule, number,
-    sealed_slots,
+    crate_refuses, decode, encode, encode_entity, encode_type, keeps_type_rule, sealed_slots,
 };
 use crate::world::{bit, World};
 use std::sync::Arc;
@@ -280,10 +278,11 @@ impl World {
     /// `condition BODY [ROOM]`: 6, 2, 5, 24
     pub fn condition(&mut self, words: &[&str]) -> Answer<String> {
         let (body, room) = match words.split_at_checked(5) {
-            Some((body, [])) => (self.body(body)?, usize::MAX),
-            Some((body, [room])) => (self.body(body)?, number(room)?),
+            Some((body, [])) => (body, None),
+            Some((body, [room])) => (body, Some(*room)),
             _ => return Err(NoCall("wrong count of words")),
         };
+        let (body, room) = (self.body(body)?, texts::room(room)?);
         let t = self.template(PolicyID::from_string("x"), &body)?;
         let nodes = self.condition_nodes(&t).unwrap_or_else(|| {
             self.fault("condition: the clause is not where it should be".to_string());

@@ -65,9 +65,9 @@ mod world;
 use std::io::{BufWriter, Read, Write};
 use std::panic::{catch_unwind, AssertUnwindSafe};
 use stop::{Answer, Stop};
-use world::World;
+use world::{Options, World};
 
-const OPTIONS: [&str; 3] = ["--lines", "--stats", "--rust-slot"];
+const OPTIONS: [&str; 4] = ["--lines", "--stats", "--rust-slot", "--rust-alone"];
 const CHECK_FAILED: i32 = 3;
 const PANICKED: i32 = 4;
 
@@ -169,13 +169,16 @@ fn main() -> std::io::Result<()> {
         .iter()
         .any(|option| !OPTIONS.contains(&option.as_str()))
     {
-        eprintln!("usage: driver [--lines] [--stats] [--rust-slot] <SCRIPT");
+        eprintln!("usage: driver [--lines] [--stats] [--rust-slot] [--rust-alone] <SCRIPT");
         std::process::exit(2)
     }
     let has = |option: &str| options.iter().any(|o| o == option);
     let mut input = vec![];
     std::io::stdin().read_to_end(&mut input)?;
-    let mut world = World::new(has("--rust-slot"));
+    let mut world = World::new(Options {
+        rust_slot: has("--rust-slot"),
+        rust_alone: has("--rust-alone"),
+    });
     let mut out = BufWriter::new(std::io::stdout());
     let status = run(&input, &mut world, has("--lines"), &mut out)?;
     out.flush()?;

@@ -1,12 +1,10 @@
 //! Merges, and what an accepted one is to keep (docs/RULES.md, "Merging").
 use crate::ast::*;
-use crate::calls::within_limits;
 use crate::print::listing;
-use crate::stop::{
-    Answer,
-    Stop::{NoCall, Outside},
-};
-use crate::texts::{encode_id, number};
+use crate::stop::Answer;
+use crate::stop::Stop::{NoCall, Outside};
+use crate::texts;
+use crate::texts::encode_id;
 use crate::world::World;
 use linked_hash_map::LinkedHashMap;
 use std::collections::HashSet;
@@ -39,7 +37,7 @@ impl World {
             "refuse" => false,
             _ => return Err(NoCall("rename or refuse")),
         };
-        let room = room.map_or(Ok(usize::MAX), number)?;
+        let room = texts::room(room)?;
         let pairs = self.merged(into, from, rename, room)?;
         let pair = |(old, new)| format!("{}>{}", encode_id(old), encode_id(new));
         Ok(format!("ok {}", listing(pairs.iter().map(pair).collect())))
@@ -58,7 +56,7 @@ impl World {
         if pairs.len() > room {
             return Err(Outside(24, pairs.len().to_string()));
         }
-        within_limits(&after)?;
+        self.refuse_beyond_limits(&after)?;
         let texts: Vec<&str> = pairs.values().map(|id| id.as_ref()).collect();
         self.book.enter_all(&texts)?;
         let live = std::mem::replace(&mut self.sets[into], after.clone());

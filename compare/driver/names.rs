@@ -1,10 +1,8 @@
 //! Lines on names. The Rust has no name book: `name` and `text` are answered by the book here and `type` by the rule of
 //! docs/RULES.md; `action` asks the reduced entity type.
 use crate::ast::{EntityType, Name};
-use crate::stop::{
-    Answer,
-    Stop::{NoCall, Outside},
-};
+use crate::stop::Answer;
+use crate::stop::Stop::{NoCall, Outside};
 use crate::texts::{decode, encode, keeps_type_rule, short_number};
 use crate::world::World;
 

@@ -1,9 +1,7 @@
 //! Words that stand for sets, entities, scopes, values and the parts of a template.
 use crate::ast::*;
-use crate::stop::{
-    Answer,
-    Stop::{NoCall, Outside},
-};
+use crate::stop::Answer;
+use crate::stop::Stop::{NoCall, Outside};
 use crate::texts::{crate_refuses, keeps_type_rule, short_number};
 use crate::world::World;
 use std::collections::HashMap;

@@ -2,10 +2,8 @@
 use crate::ast::annotation::Annotations;
 use crate::ast::*;
 use crate::reader::Body;
-use crate::stop::{
-    Answer,
-    Stop::{Outside, Refused},
-};
+use crate::stop::Answer;
+use crate::stop::Stop::{Outside, Refused};
 use crate::texts::{crate_refuses, encode, keeps_type_rule};
 use crate::world::{template_bits, World};
 

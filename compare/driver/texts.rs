@@ -1,6 +1,7 @@
 //! Words of a line, percent-encoding, numbers, and the rules on texts that docs/RULES.md gives.
 use crate::ast::{EntityType, EntityUID, SlotId};
-use crate::stop::{Answer, Stop::NoCall};
+use crate::stop::Stop::NoCall;
+use crate::stop::{Answer, Stop};
 
 /// The words of a line: spaces, tabs and carriage returns separate them.
 pub fn words(line: &[u8]) -> Vec<&[u8]> {
@@ -69,20 +70,26 @@ pub fn decode(word: &str) -> Answer<Vec<u8>> {
     Ok(text)
 }
 
-/// The number that decimal digits write; what does not fit is as large as can be.
-pub fn number(word: &str) -> Answer<usize> {
-    if word.is_empty() || !word.bytes().all(|byte| byte.is_ascii_digit()) {
-        return Err(NoCall("bad number"));
+/// The number that decimal digits write, if it is not above the bound.
+pub fn number(word: &str, most: usize) -> Answer<usize> {
+    const WRONG: Stop = NoCall("bad number");
+    if !word.bytes().all(|byte| byte.is_ascii_digit()) {
+        return Err(WRONG);
     }
-    Ok(word.parse().unwrap_or(usize::MAX))
+    match word.parse() {
+        Ok(number) if number <= most => Ok(number),
+        _ => Err(WRONG),
+    }
 }
 
-/// A name's or a clause's number: no more than 16 bits.
+/// A name's or a clause's number.
 pub fn short_number(word: &str) -> Answer<usize> {
-    match number(word)? {
-        n @ 0..=0xFFFF => Ok(n),
-        _ => Err(NoCall("number above 65535")),
-    }
+    number(word, u16::MAX as usize)
+}
+
+/// How many places a buffer has; without a word, enough.
+pub fn room(word: Option<&str>) -> Answer<usize> {
+    word.map_or(Ok(usize::MAX), |word| number(word, u32::MAX as usize))
 }
 
 /// The type-name rule: identifiers joined by `::`.

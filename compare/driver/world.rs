@@ -1,8 +1,12 @@
 //! What a run keeps from line to line.
 use crate::ast::{Expr, PolicySet, SlotId, Template};
 use crate::book::NameBook;
-use crate::stop::{Answer, Stop::Outside};
+use crate::stop::Answer;
+use crate::stop::Stop::Outside;
 use std::collections::BTreeMap;
+
+const MOST_TEMPLATES: usize = 64;
+const MOST_POLICIES: usize = 256;
 
 #[derive(Default)]
 pub struct Clauses {
@@ -21,8 +25,15 @@ pub struct World {
     /// What the checks after a call found.
     pub faults: Vec<String>,
     stats: BTreeMap<String, u64>,
+    options: Options,
+}
+
+#[derive(Clone, Copy)]
+pub struct Options {
     /// Whether 8 and 22 name the slot that the Rust names.
-    rust_slot: bool,
+    pub rust_slot: bool,
+    /// Whether the calls that 25, 26 and 27 refuse are left to the Rust alone.
+    pub rust_alone: bool,
 }
 
 pub fn bit(slot: &SlotId) -> u8 {
@@ -42,14 +53,14 @@ pub fn template_bits(t: &Template) -> u8 {
 }
 
 impl World {
-    pub fn new(rust_slot: bool) -> Self {
+    pub fn new(options: Options) -> Self {
         World {
             sets: [PolicySet::new(), PolicySet::new()],
             clauses: Clauses::default(),
             book: NameBook::default(),
             faults: vec![],
             stats: BTreeMap::new(),
-            rust_slot,
+            options,
         }
     }
 
@@ -73,11 +84,31 @@ impl World {
         if all & bit(rust) == 0 {
             self.fault(format!("the Rust names slot {}, of {all}", bit(rust)));
         }
-        match (self.rust_slot, all & 1) {
+        match (self.options.rust_slot, all & 1) {
             (true, _) => bit(rust),
             (false, 0) => all,
             (false, _) => 1,
         }
+    }
+
+    /// Refuses what the Rust has accepted: 25, 26, 27.
+    pub fn refuse(&self, n: u8, values: String) -> Answer<()> {
+        if self.options.rust_alone {
+            return Ok(());
+        }
+        Err(Outside(n, values))
+    }
+
+    /// Refuses a set that has grown past the limits: 27.
+    pub fn refuse_beyond_limits(&self, after: &PolicySet) -> Answer<()> {
+        let (templates, policies, _) = after.peek();
+        if templates.len() > MOST_TEMPLATES {
+            self.refuse(27, "templates".to_string())?;
+        }
+        if policies.len() > MOST_POLICIES {
+            self.refuse(27, "policies".to_string())?;
+        }
+        Ok(())
     }
 
     /// The answer to a line. The Rust's texts are UTF-8.
