@@ -473,7 +473,9 @@ def most_of_a_condition():
     s.say(f"condition {PLAIN} 0", "refused 24 1")
     s.say(f"condition {PLAIN} 1", "ok 1 true")
     s.say(f"condition {PLAIN} 4294967295", "ok 1 true")
-    s.say(f"condition {PLAIN} 4294967296", "error")
+    s.say(f"condition {PLAIN} 4294967296", "ok 1 true")
+    s.say(f"condition {PLAIN} 99999999999999999999", "ok 1 true")
+    s.say(f"condition {PLAIN} 1x", "error")
     s.say(f"condition {PLAIN} -1", "error")
     return s
 

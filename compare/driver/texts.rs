@@ -87,9 +87,15 @@ pub fn short_number(word: &str) -> Answer<usize> {
     number(word, u16::MAX as usize)
 }
 
-/// How many places a buffer has; without a word, enough.
+/// How many places a buffer has; without a word, or with a number that is too large to be held, enough.
 pub fn room(word: Option<&str>) -> Answer<usize> {
-    word.map_or(Ok(usize::MAX), |word| number(word, u32::MAX as usize))
+    let Some(word) = word else {
+        return Ok(usize::MAX);
+    };
+    if word.is_empty() || !word.bytes().all(|byte| byte.is_ascii_digit()) {
+        return Err(NoCall("bad room"));
+    }
+    Ok(word.parse().unwrap_or(usize::MAX))
 }
 
 /// The type-name rule: identifiers joined by `::`.
