@@ -136,7 +136,7 @@ def most_accepted():
     s = Script(*templates("A", 0, half[0]), *links("A", 0, half[1], "t0"))
     s.all(templates("B", 0, half[0], OTHER) + links("B", 0, half[1], "t31"))
     s.say("merge A B rename 159", "refused 24 160")
-    s.say("merge A B rename 4294967296", "error")
+    s.say("merge A B rename 1x", "error")
     s.say("merge A B rename 160")
     s.say(f"template A more {SLOTTED}", "refused 27 templates")
     s.say(f"link A t0 more {VALUE} -", "refused 27 policies")

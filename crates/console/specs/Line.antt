@@ -1,5 +1,5 @@
--- What a line asks for.
-use Rattle.std.specs.Prelude.{◌≡◌, ℕ, Bool, false, cond, List, [], ◌∷◌, Some, None, Ok, Err, vec_items, codes, Option, Result, ◌==◌}
+-- What a line on names asks for.
+use Rattle.std.specs.Prelude.{◌≡◌, ℕ, cond, List, [], ◌∷◌, Some, None, Ok, Err, vec_items, codes, Option, Result}
 use Rattle.std.specs.Option.{option_map}
 use Rattle.std.specs.Str.{bytes_eq}
 use Rattle.console.specs.Reading.{rest, next_text, next_number}
@@ -10,9 +10,8 @@ use Rattle.console.specs.declared.name_calls.NameWord.TheVariants as word
 use Rattle.console.specs.declared.name_calls.NameCall.{NameCall}
 use Rattle.console.specs.declared.name_calls.NameCall.TheVariants as call
 
--- Nothing, a call, or what is no call.
+-- A call on names, or what is no call.
 pub data Line : Type 0 where
-  blank : Line
   wrong : Line
   name : List ℕ → Line
   text : ℕ → Line
@@ -42,21 +41,6 @@ ended (Some line) (word ∷ more) = wrong
 -- The call on names that a word and all words behind it ask for.
 abbrev pub name_call : NameWord → List (List ℕ) → Line
 name_call first args = ended (argued first args) (rest args)
-
--- A word that begins a comment.
-abbrev pub comment : List ℕ → Bool
-comment [] = false
-comment (b ∷ bs) = b == 35
-
--- What a line asks for by its first word, if that is the word of a call on names, and by the words behind it.
-abbrev pub call_of : Option NameWord → List (List ℕ) → Line
-call_of None args = wrong
-call_of (Some w) args = name_call w args
-
--- What a line asks for, by its words: nothing where it has none or begins a comment.
-abbrev pub line_of : List (List ℕ) → Line
-line_of [] = blank
-line_of (head ∷ args) = cond (comment head) blank (call_of (name_word head) args)
 
 -- What a call that was read asks for.
 abbrev pub meant : NameCall → Line

@@ -1,6 +1,8 @@
-ghost use Rattle.std.specs.Prelude.{◌≡◌};
+ghost use Rattle.std.specs.Prelude.{◌≡◌, IfOk, string_bytes};
 ghost use Rattle.console.specs.Reading.{left, rest, Reads};
+ghost use Rattle.names.specs.Book.{texts as texts_of, limits as limits_of};
 ghost use Rattle.console.specs.Line.{name_word, argued, name_call, meant, Asks};
+ghost use Rattle.console.specs.Naming.{Answers, texts_after, yes_word};
 
 use crate::args::Args;
 use crate::stop::Stop;
@@ -65,13 +67,20 @@ impl NameWord {
     }
 }
 
-fn yes_or_no(heap: Global, yes: bool) -> Result<String, AllocError> {
+// The word of a yes or a no.
+fn yes_or_no(heap: Global, yes: bool) -> Result<String, AllocError>
+    ensures { IfOk result (λ word. string_bytes word ≡ yes_word yes) }
+{
     String::from_str(heap, if yes { "yes" } else { "no" })
 }
 
 impl NameCall {
     // Makes the call, and answers as it is printed.
-    pub fn make(self, heap: Global, book: &mut NameBook) -> Result<String, Stop> {
+    pub fn make(self, heap: Global, book: &mut NameBook) -> Result<String, Stop>
+        ensures answer { Answers (limits_of book.old) (texts_of book.old) (meant self) result }
+        ensures after { texts_of book.new ≡ texts_after (limits_of book.old) (texts_of book.old) (meant self) }
+        ensures limits { limits_of book.new ≡ limits_of book.old }
+    {
         match self {
             NameCall::Name(text) => {
                 let number = book.name(text.as_slice())?;
