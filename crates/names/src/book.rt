@@ -4,6 +4,7 @@ ghost use Rattle.names.specs.Names.{number_of, name_answer, name_after, text_ans
 ghost use Rattle.names.specs.Lent.{lent};
 ghost use Rattle.names.specs.TypeName.{TypeName, IsAction};
 
+use crate::index::{Index, hash};
 use crate::keeper::Pieces;
 use crate::kept::NameBook;
 use crate::text::is_action_type;
@@ -26,8 +27,10 @@ impl NameBook {
     pub fn new(heap: Global, places: usize, room: usize) -> Result<NameBook, AllocError>
         ensures { IfOk result (λ book. (texts_of book ≡ []) × (limits_of book ≡ record { places = min places 1024; room = min room 65535 })) }
     {
-        let texts = Pieces::new(heap, places.min(PLACES), room.min(ROOM))?;
-        Ok(NameBook { texts })
+        let places = places.min(PLACES);
+        let texts = Pieces::new(heap, places, room.min(ROOM))?;
+        let index = Index::new(heap, places)?;
+        Ok(NameBook { texts, index })
     }
 
     // How many names there are.
@@ -42,7 +45,15 @@ impl NameBook {
     pub fn find(&self, text: &[u8]) -> Option<usize>
         ensures { result ≡ number_of text.now (texts_of self.now) }
     {
-        (0..self.texts.count()).find(|&n| self.texts.piece(n) == text)
+        let mut next = self.index.last[hash(text)];
+        while let Some(n) = next {
+            let n = n as usize;
+            if self.texts.piece(n) == text {
+                return Some(n);
+            }
+            next = self.index.before[n];
+        }
+        None
     }
 
     // Whether so many names more, of so many bytes together, keep within the limits.
@@ -59,7 +70,9 @@ impl NameBook {
         ensures texts { texts_of self.new ≡ texts_of self.old ++ (text.now ∷ []) }
         ensures limits { limits_of self.new ≡ limits_of self.old }
     {
+        let number = self.texts.count();
         self.texts.push(text);
+        self.index.push(hash(text), number as NameNumber);
     }
 
     // The number of a text, which enters under the next number where it is not there.

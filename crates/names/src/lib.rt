@@ -2,6 +2,7 @@
 
 pub mod book;
 pub mod entity;
+pub mod index;
 pub mod keeper;
 pub mod kept;
 #[cfg(test)]

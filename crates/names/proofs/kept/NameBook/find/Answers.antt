@@ -1,12 +1,16 @@
-use Rattle.std.proofs.Common.{◌≡◌, [], get_or, rules, tests}
-use Rattle.std.proofs.lemmas.Iterator.{first_from_Range}
+use Rattle.std.proofs.Common.{◌≡◌, [], get_or, Some, sym, ap, arith}
 use Rattle.names.specs.Book.{texts}
-use Rattle.names.proofs.Names.{number_found, same_piece, other_piece}
+use Rattle.names.specs.Index.{past}
+use Rattle.names.proofs.Names.{number_none, same_piece}
+use Rattle.names.proofs.Indexes.{number_distinct}
 use Rattle.names.proofs.kept.NameBook.find.Goals as goal
+
+pub returns-then-eq : goal.returns-then-eq
+returns-then-eq c =
+    let p : past c.loop-next.next ≡ past (Some c.in-Some.n) = ap past c.in-Some.is in
+    sym (number_distinct c.args.text.now (texts c.args.self.now) c.in-Some.n c.args.self.now.distinct (omega (arith, p, c.loop-next.invariant.0))
+    (same_piece c.piece.result.now c.args.text.now (get_or (texts c.args.self.now) c.in-Some.n []) c.if-eq.ensures c.piece.ensures))
 
 pub returns : goal.returns
 returns c =
-    number_found c.args.text.now (texts c.args.self.now) c.count.result c.find.result c.count.ensures.count
-    (first_from_Range _ _ _ _ (λ n. get_or (texts c.args.self.now) n [] ≡ c.args.text.now) (λ n. get_or (texts c.args.self.now) n [] ≡ c.args.text.now → ⊥) c.find.ensures.ran
-    (λ x q k. grind (rules, tests, same_piece))
-    (λ x q k. (search rules, grind (rules, tests, other_piece))))
+    sym (number_none c.args.text.now (texts c.args.self.now) (λ k l. c.loop-next.invariant.2 k (let p : past c.loop-next.next ≡ 0 = ap past c.in_default.is in omega (arith, p)) l))
