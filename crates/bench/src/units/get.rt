@@ -1,0 +1,59 @@
+use crate::books::{Books, CLAUSE};
+use crate::full_set::{FULL, full_set};
+use crate::rng::Rng;
+use crate::stop::Stop;
+use crate::unit::Unit;
+use policy::bound::Policy;
+use policy_set::set::PolicySet;
+use refusals::NameNumber;
+use std::alloc::Global;
+
+// A policy of a full set by its id, each in its turn.
+#[derive(Drop)]
+pub struct Get {
+    books: Books,
+    set: PolicySet,
+    ids: [NameNumber; 256],
+    turn: usize,
+    found: Option<Policy>,
+}
+
+// The ids of the policies, in another order than theirs.
+fn ids(set: &PolicySet) -> Result<[NameNumber; 256], Stop> {
+    let mut ids = [0; 256];
+    for (place, id) in ids.iter_mut().enumerate() {
+        let (policy, _) = set.policies(place).ok_or(Stop::Absent)?;
+        *id = policy;
+    }
+    Rng::new(11).shuffle(&mut ids);
+    Ok(ids)
+}
+
+impl Get {
+    pub fn new(heap: Global) -> Result<Get, Stop> {
+        let mut books = Books::new(heap)?;
+        let clause = books.clauses.enter(CLAUSE)?;
+        let set = full_set(&mut books, FULL, clause)?;
+        let ids = ids(&set)?;
+        Ok(Get {
+            books,
+            set,
+            ids,
+            turn: 0,
+            found: None,
+        })
+    }
+}
+
+impl Unit for Get {
+    const NAME: &'static str = "get";
+
+    // The policy is kept, so that no build can leave out handing it over.
+    fn work(&mut self) -> Result<usize, Stop> {
+        let k = self.turn % 256;
+        self.turn = k + 1;
+        let id = self.ids[k];
+        self.found = self.set.get(id, &self.books.names)?;
+        Ok(id as usize)
+    }
+}

@@ -1,0 +1,94 @@
+use crate::books::{Books, CLAUSE};
+use crate::full_set::{Size, full_set};
+use crate::rng::Rng;
+use crate::stop::Stop;
+use crate::unit::Unit;
+use policy::bound::Policy;
+use policy::values::SlotEnv;
+use policy_set::set::PolicySet;
+use refusals::NameNumber;
+use std::alloc::Global;
+
+// One policy less than a full set has.
+const ROOM_FOR_ONE: Size = Size {
+    templates: 64,
+    slotted: 32,
+    links: 223,
+};
+
+// What `link` is given.
+#[derive(Clone, Copy, Default)]
+struct Link {
+    template: NameNumber,
+    id: NameNumber,
+    values: SlotEnv,
+}
+
+// The last place of a full set is linked, and unlinked again.
+#[derive(Drop)]
+pub struct LinkUnlink {
+    books: Books,
+    set: PolicySet,
+    links: [Link; 16],
+    turn: usize,
+    linked: Option<Policy>,
+    unlinked: Option<Policy>,
+}
+
+// A link of each template with one slot, which every other one is.
+fn links(books: &mut Books, set: &PolicySet) -> Result<[Link; 16], Stop> {
+    let mut rng = Rng::new(5);
+    let mut links = [Link::default(); 16];
+    let user = books.user;
+    for (k, link) in links.iter_mut().enumerate() {
+        let template = set.templates(2 * k).ok_or(Stop::Absent)?;
+        let id = books.id(&mut rng)?;
+        let principal = Some(books.entity(&mut rng, user)?);
+        let values = SlotEnv {
+            principal,
+            resource: None,
+        };
+        *link = Link {
+            template,
+            id,
+            values,
+        };
+    }
+    Ok(links)
+}
+
+impl LinkUnlink {
+    pub fn new(heap: Global) -> Result<LinkUnlink, Stop> {
+        let mut books = Books::new(heap)?;
+        let clause = books.clauses.enter(CLAUSE)?;
+        let set = full_set(&mut books, ROOM_FOR_ONE, clause)?;
+        let links = links(&mut books, &set)?;
+        Ok(LinkUnlink {
+            books,
+            set,
+            links,
+            turn: 0,
+            linked: None,
+            unlinked: None,
+        })
+    }
+}
+
+impl Unit for LinkUnlink {
+    const NAME: &'static str = "link_unlink_full";
+
+    // Both policies are kept, so that no build can leave out handing them over.
+    fn work(&mut self) -> Result<usize, Stop> {
+        let k = self.turn % 16;
+        self.turn = k + 1;
+        let Link {
+            template,
+            id,
+            values,
+        } = self.links[k];
+        let names = &self.books.names;
+        self.linked = Some(self.set.link(template, id, values, names)?);
+        self.unlinked = Some(self.set.unlink(id, names)?);
+        Ok(id as usize)
+    }
+}
