@@ -1,7 +1,7 @@
 #![tactic(auto)]
 
 // Units of work on name books and policy sets: does each once and prints what it came to, or, with the argument `time`,
-// prints what each takes.
+// prints what each takes. A second argument names the only unit that is wanted.
 mod books;
 mod full_set;
 mod middle;
@@ -13,7 +13,7 @@ mod timing;
 mod unit;
 mod units;
 
-use report::Mode;
+use report::Wish;
 use std::env;
 use stop::Stop;
 use units::condition::Condition;
@@ -23,22 +23,25 @@ use units::lookup::Lookup;
 use units::merge_equal::MergeEqual;
 use units::merge_rename::MergeRename;
 
-// The mode that the arguments ask for, behind the program's name.
-fn mode(rt: &HostRuntime) -> Result<Mode, Stop> {
-    match env::args(rt)?.nth(1) {
-        None => Ok(Mode::Once),
-        Some(word) if word.as_str() == "time" => Ok(Mode::Timed),
-        Some(_) => Err(Stop::Usage),
-    }
+// What the arguments ask for, behind the program's name.
+fn wish(rt: &HostRuntime) -> Result<Wish, Stop> {
+    let mut words = env::args(rt)?.skip(1);
+    let is_timed = match words.next() {
+        None => false,
+        Some(word) if word.as_str() == "time" => true,
+        Some(_) => return Err(Stop::Usage),
+    };
+    let only = words.next();
+    Ok(Wish { is_timed, only })
 }
 
 fn main(rt: HostRuntime) -> Result<(), Stop> {
-    let mode = mode(&rt)?;
+    let wish = wish(&rt)?;
     let heap = rt.alloc();
-    mode.tell(&rt, &mut Lookup::new(heap)?)?;
-    mode.tell(&rt, &mut LinkUnlink::new(heap)?)?;
-    mode.tell(&rt, &mut Condition::new(heap)?)?;
-    mode.tell(&rt, &mut MergeEqual::new(heap)?)?;
-    mode.tell(&rt, &mut MergeRename::new(heap))?;
-    mode.tell(&rt, &mut Get::new(heap)?)
+    wish.tell(&rt, &mut Lookup::new(heap)?)?;
+    wish.tell(&rt, &mut LinkUnlink::new(heap)?)?;
+    wish.tell(&rt, &mut Condition::new(heap)?)?;
+    wish.tell(&rt, &mut MergeEqual::new(heap)?)?;
+    wish.tell(&rt, &mut MergeRename::new(heap))?;
+    wish.tell(&rt, &mut Get::new(heap)?)
 }

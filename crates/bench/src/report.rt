@@ -6,11 +6,11 @@ use std::fmt;
 use std::io::{Eprint, Print};
 use std::time::Clock;
 
-// What is done with each unit.
-#[derive(Clone, Copy)]
-pub enum Mode {
-    Once,
-    Timed,
+// What is wanted: whether the units are timed, and which unit, if not all.
+#[derive(Drop)]
+pub struct Wish {
+    pub is_timed: bool,
+    pub only: Option<String>,
 }
 
 // Nanoseconds with one decimal.
@@ -62,16 +62,25 @@ fn tell_time<U: Unit, R: Print + Eprint + Clock>(rt: &R, unit: &mut U) -> Result
     Ok(())
 }
 
-impl Mode {
-    // Prints a line on a unit.
+impl Wish {
+    // Whether a unit is wanted.
+    fn has(&self, name: &str) -> bool {
+        self.only.as_ref().is_none_or(|only| only.as_str() == name)
+    }
+
+    // Prints a line on a unit, if it is wanted.
     pub fn tell<U: Unit, R: Print + Eprint + Clock>(
-        self,
+        &self,
         rt: &R,
         unit: &mut U,
     ) -> Result<(), Stop> {
-        match self {
-            Mode::Once => tell_answer(rt, unit),
-            Mode::Timed => tell_time(rt, unit),
+        if !self.has(U::NAME) {
+            return Ok(());
+        }
+        if self.is_timed {
+            tell_time(rt, unit)
+        } else {
+            tell_answer(rt, unit)
         }
     }
 }
