@@ -1,6 +1,7 @@
 pub mod Lookups
 mod Passes
 mod Places
+mod Blocks
 mod Refusing
 mod Shifts
 pub mod Sounds
