@@ -1,4 +1,4 @@
-ghost use Rattle.std.specs.Prelude.{◌≡◌, [], ◌∷◌};
+ghost use Rattle.std.specs.Prelude.{◌≡◌, [], ◌∷◌, None as Absent};
 ghost use Rattle.refusals.specs.Refusals.{slot_bit, table_number, fault_number, fault_value, number as the_number, values as the_values};
 ghost use Rattle.refusals.specs.Listed.{listed};
 ghost use Rattle.refusals.specs.declared.refusal.Refusal.TheVariants.{InvalidTemplate as Carried, UnknownName as Unknown};
@@ -106,9 +106,10 @@ impl Refusal {
         }
     }
 
-    // The values of the refusal, in order; a refusal has two at most.
+    // The values of the refusal, in order; a refusal has two at most, and a lone one comes first.
     pub fn values(self) -> (Option<usize>, Option<usize>)
-        ensures { listed result ≡ the_values self }
+        ensures values { listed result ≡ the_values self }
+        ensures front { result.0 ≡ Absent → result.1 ≡ Absent }
     {
         match self {
             Refusal::BookFull => (None, None),
