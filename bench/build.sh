@@ -26,7 +26,7 @@ fi
 
 cd "$out"
 compile() {
-    rustc -C opt-level=3 -C debug-assertions=off -L "$out" --cap-lints allow "$@"
+    rustc -C opt-level=3 -C target-cpu=x86-64-v2 -C debug-assertions=off -L "$out" --cap-lints allow "$@"
 }
 compile --edition $edition --crate-name linked_hash_map --crate-type rlib "$map"
 compile --edition 2021 --crate-name standin_macros --crate-type proc-macro "$standins/macros.rs"

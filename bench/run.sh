@@ -13,7 +13,7 @@ here=$(cd "$(dirname "${BASH_SOURCE[0]}")" && pwd)
 ours=$here/../crates/bench
 "$here/build.sh" "$@"
 out=$(cd "$2" && pwd)
-if ! log=$(cd "$ours" && rt run </dev/null 2>&1); then
+if ! log=$(cd "$ours" && rt run --backend llvm </dev/null 2>&1); then
     printf '%s\n' "$log" >&2
     exit 1
 fi

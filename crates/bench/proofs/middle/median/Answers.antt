@@ -4,4 +4,9 @@ use Rattle.std.proofs.lemmas.List.Sorted.{IsNonDecreasingBy-from_sort}
 use Rattle.bench.proofs.middle.median.Goals as goal
 
 pub returns : goal.returns
-returns c = record { ordered = _; same = c.sort_unstable.ensures.permutation; rising = IsNonDecreasingBy-from_sort (λ t. t) _ c.sort_unstable.ensures.sorted; middle = refl }
+returns c =
+    let rising = IsNonDecreasingBy-from_sort (λ t. t) _ c.sort_unstable.ensures.sorted in
+    record {
+      median = record { ordered = _; same = c.sort_unstable.ensures.permutation; rising = rising; middle = refl };
+      order = rising;
+    }
