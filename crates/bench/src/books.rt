@@ -27,7 +27,7 @@ pub struct Books {
 }
 
 impl Books {
-    pub fn new(heap: Global) -> Result<Books, Stop> {
+    pub(crate) fn new(heap: Global) -> Result<Books, Stop> {
         let mut names = NameBook::new(heap, PLACES, ROOM)?;
         let clauses = SealedBook::new(heap)?;
         let user = names.name(b"Org::User")?;
@@ -43,24 +43,24 @@ impl Books {
         })
     }
 
-    pub fn heap(&self) -> Global {
+    pub(crate) fn heap(&self) -> Global {
         self.heap
     }
 
     // An id of eight to sixteen letters.
-    pub fn id(&mut self, rng: &mut Rng) -> Result<NameNumber, Stop> {
+    pub(crate) fn id(&mut self, rng: &mut Rng) -> Result<NameNumber, Stop> {
         let text = rng.text(self.heap, 8, 16)?;
         Ok(self.names.name(text.as_slice())?)
     }
 
     // An entity of a type.
-    pub fn entity(&mut self, rng: &mut Rng, ty: NameNumber) -> Result<EntityUID, Stop> {
+    pub(crate) fn entity(&mut self, rng: &mut Rng, ty: NameNumber) -> Result<EntityUID, Stop> {
         let eid = self.id(rng)?;
         Ok(EntityUID { ty, eid })
     }
 
     // Several entities of a type.
-    pub fn entities<const N: usize>(
+    pub(crate) fn entities<const N: usize>(
         &mut self,
         rng: &mut Rng,
         ty: NameNumber,

@@ -128,7 +128,7 @@ impl Source {
 }
 
 // A set of this size, whose templates all have this clause.
-pub fn full_set(books: &mut Books, size: Size, clause: u16) -> Result<PolicySet, Stop> {
+pub(crate) fn full_set(books: &mut Books, size: Size, clause: u16) -> Result<PolicySet, Stop> {
     let mut rng = Rng::new(SEED);
     let parties = Parties::new(books, &mut rng)?;
     let mut source = Source {

@@ -4,7 +4,7 @@ ghost use Rattle.std.specs.List.Sorted.{IsNonDecreasing};
 ghost use Rattle.bench.specs.Middle.{IsMedian};
 
 // The median, which leaves the times in order; of an even number of times the higher one in the middle.
-pub fn median(times: &mut [u64]) -> u64
+pub(crate) fn median(times: &mut [u64]) -> u64
     requires { 0 < length times.old }
     ensures median { IsMedian times.old result }
     ensures order { IsNonDecreasing times.new }

@@ -12,7 +12,7 @@ pub struct Parties {
 }
 
 impl Parties {
-    pub fn new(books: &mut Books, rng: &mut Rng) -> Result<Parties, Stop> {
+    pub(crate) fn new(books: &mut Books, rng: &mut Rng) -> Result<Parties, Stop> {
         let (user, file, action) = (books.user, books.file, books.action);
         Ok(Parties {
             users: books.entities(rng, user)?,
@@ -21,24 +21,24 @@ impl Parties {
         })
     }
 
-    pub fn user(&self, i: usize) -> EntityUID {
+    pub(crate) fn user(&self, i: usize) -> EntityUID {
         self.users[i % 32]
     }
 
-    pub fn file(&self, i: usize) -> EntityUID {
+    pub(crate) fn file(&self, i: usize) -> EntityUID {
         self.files[i % 32]
     }
 
-    pub fn any_user(&self, rng: &mut Rng) -> EntityUID {
+    pub(crate) fn any_user(&self, rng: &mut Rng) -> EntityUID {
         self.users[rng.below(32)]
     }
 
-    pub fn any_file(&self, rng: &mut Rng) -> EntityUID {
+    pub(crate) fn any_file(&self, rng: &mut Rng) -> EntityUID {
         self.files[rng.below(32)]
     }
 
     // An action and the next one.
-    pub fn two_actions(&self, i: usize) -> [EntityUID; 2] {
+    pub(crate) fn two_actions(&self, i: usize) -> [EntityUID; 2] {
         [self.actions[i % 8], self.actions[(i % 8 + 1) % 8]]
     }
 }

@@ -69,7 +69,7 @@ impl Wish {
     }
 
     // Prints a line on a unit, if it is wanted.
-    pub fn tell<U: Unit, R: Print + Eprint + Clock>(
+    pub(crate) fn tell<U: Unit, R: Print + Eprint + Clock>(
         &self,
         rt: &R,
         unit: &mut U,

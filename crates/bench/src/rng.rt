@@ -10,12 +10,12 @@ pub struct Rng {
 }
 
 impl Rng {
-    pub fn new(seed: u64) -> Rng {
+    pub(crate) fn new(seed: u64) -> Rng {
         Rng { state: seed }
     }
 
     // A number below `n`.
-    pub fn below(&mut self, n: usize) -> usize
+    pub(crate) fn below(&mut self, n: usize) -> usize
         requires { 0 < n }
         ensures { result < n }
     {
@@ -31,7 +31,12 @@ impl Rng {
     }
 
     // So many small letters at least, and so many at most.
-    pub fn text(&mut self, heap: Global, least: usize, most: usize) -> Result<Vec<u8>, AllocError>
+    pub(crate) fn text(
+        &mut self,
+        heap: Global,
+        least: usize,
+        most: usize,
+    ) -> Result<Vec<u8>, AllocError>
         requires order { least ≤ most }
         requires short { most < 2 ^ 16 }
     {
@@ -44,7 +49,7 @@ impl Rng {
     }
 
     // Puts the items into another order.
-    pub fn shuffle<T>(&mut self, items: &mut [T]) {
+    pub(crate) fn shuffle<T>(&mut self, items: &mut [T]) {
         for i in (1..items.len()).rev() {
             let j = self.below(i + 1);
             items.swap(i, j);

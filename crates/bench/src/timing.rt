@@ -48,7 +48,7 @@ fn run_laps<U: Unit, C: Clock>(unit: &mut U, clock: &C, n: u32) -> Result<Laps, 
 }
 
 // The work of a lap is doubled until the shortest lap is long enough, so the laps that count are warm.
-pub fn measure<U: Unit, C: Clock>(unit: &mut U, clock: &C) -> Result<Timing, Stop> {
+pub(crate) fn measure<U: Unit, C: Clock>(unit: &mut U, clock: &C) -> Result<Timing, Stop> {
     let mut sum = 0usize;
     for doublings in 0..DOUBLINGS {
         let units = 1 << doublings;

@@ -9,7 +9,7 @@ use policy::scope::ActionScope;
 pub type ActionWord = ActionIn<Vec<EntityUID>>;
 
 // The scope, its list lent. No `From`: both types are the library's.
-pub fn lent(action: &ActionWord) -> ActionScope<'_> {
+pub(crate) fn lent(action: &ActionWord) -> ActionScope<'_> {
     match action {
         ActionIn::Any => ActionIn::Any,
         ActionIn::Eq(e) => ActionIn::Eq(*e),
@@ -31,7 +31,7 @@ impl Reader<'_> {
     }
 
     // any, eq:ENTITY, in:[ENTITY,ENTITY,...]
-    pub fn action(&mut self, word: &[u8]) -> Result<ActionWord, Stop> {
+    pub(crate) fn action(&mut self, word: &[u8]) -> Result<ActionWord, Stop> {
         if word == b"any".as_slice() {
             return Ok(ActionIn::Any);
         }

@@ -21,7 +21,7 @@ pub struct Body {
 
 impl Body {
     // EFFECT P A R CLAUSE
-    pub fn read(reader: &mut Reader, args: &mut Args) -> Result<Body, Stop> {
+    pub(crate) fn read(reader: &mut Reader, args: &mut Args) -> Result<Body, Stop> {
         let effect = effect(args.word()?)?;
         let principal = reader.scope(args.word()?)?;
         let action = reader.action(args.word()?)?;
@@ -37,7 +37,7 @@ impl Body {
     }
 
     // The template of the line under an id.
-    pub fn template<B: ClauseBook>(
+    pub(crate) fn template<B: ClauseBook>(
         &self,
         id: NameNumber,
         book: &NameBook,

@@ -66,7 +66,7 @@ impl Reader<'_> {
 
 impl Clauses {
     // Two empty books.
-    pub fn new(heap: Global) -> Result<Clauses, AllocError> {
+    pub(crate) fn new(heap: Global) -> Result<Clauses, AllocError> {
         let sealed = SealedBook::new(heap)?;
         let trees = TreeBook::new(heap)?;
         Ok(Clauses {
@@ -90,7 +90,7 @@ impl Clauses {
     }
 
     // `clause TEXT`
-    pub fn clause(&mut self, heap: Global, args: &mut Args) -> Result<String, Stop> {
+    pub(crate) fn clause(&mut self, heap: Global, args: &mut Args) -> Result<String, Stop> {
         self.settle(Kind::Sealed)?;
         let text = args.text()?;
         args.end()?;
@@ -99,7 +99,7 @@ impl Clauses {
     }
 
     // `tree NODE ...`
-    pub fn tree(&mut self, reader: &mut Reader, args: &mut Args) -> Result<String, Stop> {
+    pub(crate) fn tree(&mut self, reader: &mut Reader, args: &mut Args) -> Result<String, Stop> {
         self.settle(Kind::Trees)?;
         let nodes = reader.nodes(args)?;
         let number = self.trees.enter(nodes.as_slice(), reader.book)?;
@@ -107,7 +107,7 @@ impl Clauses {
     }
 
     // `condition BODY [ROOM]`, on the book that the script stands on.
-    pub fn condition(&self, reader: &mut Reader, args: &mut Args) -> Result<String, Stop> {
+    pub(crate) fn condition(&self, reader: &mut Reader, args: &mut Args) -> Result<String, Stop> {
         // A match here and in `binding`: the books differ in type, and no closure is generic over a type.
         match self.kind {
             Some(Kind::Trees) => reader.condition(args, &self.trees),
@@ -116,7 +116,7 @@ impl Clauses {
     }
 
     // `binding BODY PV RV`, likewise.
-    pub fn binding(&self, reader: &mut Reader, args: &mut Args) -> Result<String, Stop> {
+    pub(crate) fn binding(&self, reader: &mut Reader, args: &mut Args) -> Result<String, Stop> {
         match self.kind {
             Some(Kind::Trees) => reader.binding(args, &self.trees),
             Some(Kind::Sealed) | None => reader.binding(args, &self.sealed),
@@ -124,7 +124,7 @@ impl Clauses {
     }
 
     // A line on a set, likewise: its first word is read, and the next one names the set.
-    pub fn set_line(
+    pub(crate) fn set_line(
         &mut self,
         first: SetWord,
         reader: &mut Reader,

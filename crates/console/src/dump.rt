@@ -63,7 +63,12 @@ fn push_reverse(
 }
 
 // The lines of a set, without the last line feed.
-pub fn dump(heap: Global, book: &NameBook, side: Side, set: &PolicySet) -> Result<String, Stop> {
+pub(crate) fn dump(
+    heap: Global,
+    book: &NameBook,
+    side: Side,
+    set: &PolicySet,
+) -> Result<String, Stop> {
     let templates = places(heap, |place| set.all_templates(place))?;
     let policies = places(heap, |place| set.policies(place))?;
     let word = side_word(side);

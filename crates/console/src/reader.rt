@@ -26,25 +26,25 @@ pub struct Reader<'a> {
 
 impl Reader<'_> {
     // The number of a text, which enters the book.
-    pub fn name(&mut self, word: &[u8]) -> Result<NameNumber, Stop> {
+    pub(crate) fn name(&mut self, word: &[u8]) -> Result<NameNumber, Stop> {
         let text = decode(self.heap, word)?.ok_or(Wrong::BadPercent)?;
         Ok(self.book.name(text.as_slice())?)
     }
 
     // The id that is the next word.
-    pub fn id(&mut self, args: &mut Args) -> Result<NameNumber, Stop> {
+    pub(crate) fn id(&mut self, args: &mut Args) -> Result<NameNumber, Stop> {
         self.name(args.word()?)
     }
 
     // The id that is the last word.
-    pub fn last_id(&mut self, args: &mut Args) -> Result<NameNumber, Stop> {
+    pub(crate) fn last_id(&mut self, args: &mut Args) -> Result<NameNumber, Stop> {
         let id = self.id(args)?;
         args.end()?;
         Ok(id)
     }
 
     // TYPE/EID
-    pub fn entity(&mut self, word: &[u8]) -> Result<EntityUID, Stop> {
+    pub(crate) fn entity(&mut self, word: &[u8]) -> Result<EntityUID, Stop> {
         let (ty, eid) = split_once(word, b'/').ok_or(Wrong::BadEntity)?;
         let ty = self.name(ty)?;
         let eid = self.name(eid)?;
@@ -68,7 +68,7 @@ impl Reader<'_> {
     }
 
     // A principal or resource scope: any, eq:REF, in:REF, is:TYPE, isin:TYPE:REF
-    pub fn scope(&mut self, word: &[u8]) -> Result<PrincipalOrResourceConstraint, Stop> {
+    pub(crate) fn scope(&mut self, word: &[u8]) -> Result<PrincipalOrResourceConstraint, Stop> {
         if word == b"any".as_slice() {
             return Ok(PrincipalOrResourceConstraint::Any);
         }
@@ -91,7 +91,7 @@ impl Reader<'_> {
     }
 
     // PV RV
-    pub fn values(&mut self, args: &mut Args) -> Result<SlotEnv, Stop> {
+    pub(crate) fn values(&mut self, args: &mut Args) -> Result<SlotEnv, Stop> {
         let principal = self.value(args.word()?)?;
         let resource = self.value(args.word()?)?;
         Ok(SlotEnv {
@@ -102,7 +102,7 @@ impl Reader<'_> {
 }
 
 // permit or forbid: the words are the console's format and not the library's, so they are no `TryFrom` of `Effect`
-pub fn effect(word: &[u8]) -> Result<Effect, Wrong> {
+pub(crate) fn effect(word: &[u8]) -> Result<Effect, Wrong> {
     match word {
         b"permit" => Ok(Effect::Permit),
         b"forbid" => Ok(Effect::Forbid),
@@ -122,7 +122,7 @@ pub fn side(word: &[u8]) -> Result<Side, Wrong>
 }
 
 // `-`, or the number of a clause: the console's format and not the library's, so it is no `TryFrom`
-pub fn clause(word: &[u8]) -> Result<Option<u16>, Wrong> {
+pub(crate) fn clause(word: &[u8]) -> Result<Option<u16>, Wrong> {
     if word == b"-".as_slice() {
         return Ok(None);
     }

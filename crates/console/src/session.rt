@@ -21,7 +21,7 @@ pub struct Session {
 
 impl Session {
     // A run on empty books.
-    pub fn new(heap: Global) -> Result<Session, AllocError> {
+    pub(crate) fn new(heap: Global) -> Result<Session, AllocError> {
         let book = NameBook::new(heap, PLACES, ROOM)?;
         let clauses = Clauses::new(heap)?;
         Ok(Session {
@@ -64,7 +64,7 @@ impl Session {
     }
 
     // The answer to a line, without its line feed.
-    pub fn answer(&mut self, line: &[u8]) -> Result<Option<String>, AllocError> {
+    pub(crate) fn answer(&mut self, line: &[u8]) -> Result<Option<String>, AllocError> {
         match self.call(line) {
             Ok(answer) => Ok(answer),
             Err(Stop::Wrong(wrong)) => Ok(Some(format!(in self.heap; "error {wrong}")?)),

@@ -59,7 +59,7 @@ impl Change {
 
 impl SetWord {
     // What a line's first word does with a set; none where it is no call on sets.
-    pub fn of(head: &[u8]) -> Option<SetWord> {
+    pub(crate) fn of(head: &[u8]) -> Option<SetWord> {
         match Change::of(head) {
             Some(change) => Some(SetWord::Change(change)),
             None => Read::of(head).map(|read| SetWord::Read(read)),
@@ -144,7 +144,7 @@ impl Reader<'_> {
     }
 
     // Answers a line on a set.
-    pub fn set_line<B: ClauseBook>(
+    pub(crate) fn set_line<B: ClauseBook>(
         &mut self,
         first: SetWord,
         side: Side,

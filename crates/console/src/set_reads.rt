@@ -29,7 +29,7 @@ pub enum Read {
 
 impl Read {
     // What a line's first word reads; none where it reads no set.
-    pub fn of(head: &[u8]) -> Option<Read> {
+    pub(crate) fn of(head: &[u8]) -> Option<Read> {
         match head {
             b"policies" => Some(Read::Policies),
             b"static_policies" => Some(Read::StaticPolicies),
@@ -44,7 +44,10 @@ impl Read {
 }
 
 // All that a listing gives, place by place.
-pub fn places<T: Drop, F: Fn(usize) -> Option<T>>(heap: Global, at: F) -> Result<Vec<T>, AllocError>
+pub(crate) fn places<T: Drop, F: Fn(usize) -> Option<T>>(
+    heap: Global,
+    at: F,
+) -> Result<Vec<T>, AllocError>
     requires { F.IsAlwaysCallable at }
 {
     let mut list = Vec::new(heap);
@@ -58,7 +61,7 @@ pub fn places<T: Drop, F: Fn(usize) -> Option<T>>(heap: Global, at: F) -> Result
 }
 
 // The policies under a template.
-pub fn ids_under(
+pub(crate) fn ids_under(
     heap: Global,
     book: &NameBook,
     set: &PolicySet,
@@ -131,7 +134,7 @@ impl Reader<'_> {
     }
 
     // Reads one of the sets.
-    pub fn read_set<B: ClauseBook>(
+    pub(crate) fn read_set<B: ClauseBook>(
         &mut self,
         read: Read,
         side: Side,

@@ -23,7 +23,7 @@ fn own_id(book: &mut NameBook) -> Result<NameNumber, Refusal> {
 
 impl Reader<'_> {
     // `condition BODY [ROOM]`: `ok N NODE ...`
-    pub fn condition<B: ClauseBook>(
+    pub(crate) fn condition<B: ClauseBook>(
         &mut self,
         args: &mut Args,
         clauses: &B,
@@ -37,7 +37,11 @@ impl Reader<'_> {
     }
 
     // `binding BODY PV RV`
-    pub fn binding<B: ClauseBook>(&mut self, args: &mut Args, clauses: &B) -> Result<String, Stop> {
+    pub(crate) fn binding<B: ClauseBook>(
+        &mut self,
+        args: &mut Args,
+        clauses: &B,
+    ) -> Result<String, Stop> {
         let body = Body::read(self, args)?;
         let values = self.values(args)?;
         args.end()?;

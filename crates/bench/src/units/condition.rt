@@ -37,7 +37,7 @@ fn template(books: &mut Books, clause: u16) -> Result<Template, Stop> {
 }
 
 impl Condition {
-    pub fn new(heap: Global) -> Result<Condition, Stop> {
+    pub(crate) fn new(heap: Global) -> Result<Condition, Stop> {
         let mut books = Books::new(heap)?;
         let clause = books.clauses.enter(CLAUSE)?;
         let template = template(&mut books, clause)?;

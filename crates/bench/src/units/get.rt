@@ -30,7 +30,7 @@ fn ids(set: &PolicySet) -> Result<[NameNumber; 256], Stop> {
 }
 
 impl Get {
-    pub fn new(heap: Global) -> Result<Get, Stop> {
+    pub(crate) fn new(heap: Global) -> Result<Get, Stop> {
         let mut books = Books::new(heap)?;
         let clause = books.clauses.enter(CLAUSE)?;
         let set = full_set(&mut books, FULL, clause)?;

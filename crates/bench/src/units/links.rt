@@ -58,7 +58,7 @@ fn links(books: &mut Books, set: &PolicySet) -> Result<[Link; 16], Stop> {
 }
 
 impl LinkUnlink {
-    pub fn new(heap: Global) -> Result<LinkUnlink, Stop> {
+    pub(crate) fn new(heap: Global) -> Result<LinkUnlink, Stop> {
         let mut books = Books::new(heap)?;
         let clause = books.clauses.enter(CLAUSE)?;
         let set = full_set(&mut books, ROOM_FOR_ONE, clause)?;

@@ -13,7 +13,7 @@ pub struct Lookup {
 }
 
 impl Lookup {
-    pub fn new(heap: Global) -> Result<Lookup, Stop> {
+    pub(crate) fn new(heap: Global) -> Result<Lookup, Stop> {
         let mut rng = Rng::new(3);
         let mut names = NameBook::new(heap, PLACES, ROOM)?;
         let mut asked = Vec::with_capacity(heap, PLACES)?;

@@ -17,7 +17,7 @@ pub struct MergeEqual {
 }
 
 impl MergeEqual {
-    pub fn new(heap: Global) -> Result<MergeEqual, Stop> {
+    pub(crate) fn new(heap: Global) -> Result<MergeEqual, Stop> {
         let mut books = Books::new(heap)?;
         let clause = books.clauses.enter(CLAUSE)?;
         let again = books.clauses.enter(CLAUSE)?;

@@ -56,7 +56,7 @@ pub struct MergeRename {
 }
 
 impl MergeRename {
-    pub fn new(heap: Global) -> MergeRename {
+    pub(crate) fn new(heap: Global) -> MergeRename {
         MergeRename { heap }
     }
 }
