@@ -1,8 +1,20 @@
 -- A search that goes on behind rows that were passed.
-use Rattle.std.proofs.Common.{◌≡◌, ℕ, ◌+◌, Bool, true, false, cond, List, [], ◌∷◌, Some, sym, refl, ap, ◌∙◌, subst, arith}
-use Rattle.std.specs.List.{position_from, position}
+use Rattle.std.proofs.Common.{◌≡◌, ℕ, suc, ◌+◌, Bool, true, false, cond, ◌||◌, List, [], ◌∷◌, ◌++◌, length, Some, sym, refl, ap, ◌∙◌, subst, arith}
+use Rattle.std.proofs.lemmas.Bool.{false≢true}
+use Rattle.std.specs.List.{position_from, position, list_any}
 use Rattle.std.specs.Option.{option_map}
 use Rattle.std.proofs.lemmas.Iterator.Adapters.{position_from-zero}
+
+module _ {X : Type 0} (test : X → Bool) where
+  -- rows without the key are passed
+  pub passed_by : (n : ℕ) (xs ys : List X) → list_any test xs ≡ false → position_from test n (xs ++ ys) ≡ position_from test (n + length xs) ys
+  passed_by n [] ys h = ap (λ m. position_from test m ys) (omega arith)
+  passed_by n (x ∷ xs) ys h = go (passed_by (n + 1) xs ys) (test x) h
+    where
+      go : (list_any test xs ≡ false → position_from test (n + 1) (xs ++ ys) ≡ position_from test (n + 1 + length xs) ys) → (b : Bool)
+          → (b || list_any test xs) ≡ false → cond b (Some n) (position_from test (n + 1) (xs ++ ys)) ≡ position_from test (n + suc (length xs)) ys
+      go ih true e = absurd (false≢true (sym e))
+      go ih false e = ih e ∙ ap (λ m. position_from test m ys) (omega arith)
 
 module _ {X : Type 0} (test : X → Bool) (n : ℕ) where
   -- places from n on are those from 0 on, n further

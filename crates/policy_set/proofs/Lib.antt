@@ -2,6 +2,7 @@ pub mod Lookups
 mod Passes
 mod Places
 mod Blocks
+mod Keys
 mod Refusing
 mod Shifts
 pub mod Sounds

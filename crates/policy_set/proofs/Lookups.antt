@@ -1,7 +1,8 @@
 -- Lookups in tables.
-use Rattle.std.proofs.Common.{◌≡◌, ℕ, ◌+◌, ◌≤◌, Bool, true, false, cond, eqb, List, [], ◌∷◌, ◌++◌, is_some as option_is_some, Some, None, Option, sym, refl, ap, ◌∙◌, subst, arith}
+use Rattle.std.proofs.Common.{◌≡◌, ℕ, ◌+◌, ◌≤◌, Bool, true, false, cond, eqb, List, [], ◌∷◌, ◌++◌, take, drop, is_some as option_is_some, Some, None, Option, sym, refl, ap, ◌∙◌, subst, arith}
 use Rattle.std.proofs.lemmas.Bool.{eqb-true, eqb-false, ne_eqb}
-use Rattle.policy_set.specs.Tables.{one_if, lookup, erase, put_last, put_all, row_last, moved_last, times, Once}
+use Rattle.std.proofs.lemmas.List.{take-append-drop, drop-drop}
+use Rattle.policy_set.specs.Tables.{one_if, without, lookup, erase, put_last, put_all, row_last, moved_last, times, Once}
 
 pub no_some : {X : Type 0} {R : Type 0} (x : X) → ◌≡◌ {A = Option X} None (Some x) → R
 no_some x e = let z : ◌≡◌ {A = ℕ} 0 1 = cc in absurd (omega arith)
@@ -43,6 +44,10 @@ once_head key x xs k h e =
     let q : one_if (eqb (key x) k) + times key k xs ≤ 1 = h k in
     let u : one_if true + times key k xs ≤ 1 = rw e at q in
     none_times key k xs (omega (arith, u))
+
+pub times-append : {X : Type 0} (key : X → ℕ) (k : ℕ) (xs ys : List X) → times key k (xs ++ ys) ≡ times key k xs + times key k ys
+times-append key k [] ys = omega arith
+times-append key k (x ∷ xs) ys = omega (arith, times-append key k xs ys)
 
 pub times_push : {X : Type 0} (key : X → ℕ) (k : ℕ) (xs : List X) (x : X) → times key k (xs ++ x ∷ []) ≡ times key k xs + one_if (eqb (key x) k)
 times_push key k [] x = omega arith
@@ -127,12 +132,21 @@ once_pushed key xs ys x e h n = subst (λ zs. Once key zs) (sym e) (once_push ke
 pub once_erased : {X : Type 0} (key : X → ℕ) (k : ℕ) (xs ys : List X) → ys ≡ erase key k xs → Once key xs → Once key ys
 once_erased key k xs ys e h = subst (λ zs. Once key zs) (sym e) (once_erase key k xs h)
 
-pub once_moved : {X : Type 0} (key : X → ℕ) (k : ℕ) (xs ys : List X) → ys ≡ moved_last key k xs → Once key xs → Once key ys
-once_moved {X} key k xs ys e h = subst (λ zs. Once key zs) (sym e) (go (lookup key k xs))
-  where
-    go : (o : Option X) → Once key (row_last key o xs)
-    go None = h
-    go (Some x) = once_put key xs x h
+pub once_moved : {X : Type 0} (key : X → ℕ) (i : ℕ) (xs ys : List X) → ys ≡ without i xs ++ take 1 (drop i xs) → Once key xs → Once key ys
+once_moved {X} key i xs ys e h k =
+    let row = take 1 (drop i xs) in
+    let behind : drop i xs ≡ row ++ drop (i + 1) xs = sym (take-append-drop 1 (drop i xs)) ∙ ap (λ (zs : List X). row ++ zs) (drop-drop 1 i xs) in
+    omega (
+      arith,
+      h k,
+      ap (times key k) e,
+      times-append key k (without i xs) row,
+      times-append key k (take i xs) (drop (i + 1) xs),
+      ap (times key k) (sym (take-append-drop i xs)),
+      times-append key k (take i xs) (drop i xs),
+      ap (times key k) behind,
+      times-append key k row (drop (i + 1) xs),
+    )
 
 -- what each key finds after one change
 pub lookup_pushed : {X : Type 0} (key : X → ℕ) (xs : List X) (x : X) (k : ℕ) → lookup key (key x) xs ≡ None

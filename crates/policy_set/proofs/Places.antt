@@ -2,10 +2,10 @@
 use Rattle.std.proofs.Common.{◌≡◌, ℕ, suc, ◌+◌, ◌-◌, ◌<◌, ◌≤◌, Bool, true, false, cond, eqb, List, [], ◌∷◌, ◌++◌, length, get_or, take, drop, is_some as option_is_some, Some, None, Option, sym, refl, ap, ◌∙◌, subst, ⊎_elim, arith}
 use native.Mathlib.Nat.{sub-zero}
 use Rattle.std.proofs.lemmas.Bool.{eq-eqb, eqb-true, eqb-false, cond-true, cond-false, cases_Bool, false≢true}
-use Rattle.std.proofs.lemmas.List.{drop_more, length-take-le, length_push, take_at}
+use Rattle.std.proofs.lemmas.List.{drop_more}
 use Rattle.std.specs.List.{position_from, position}
 use Rattle.std.proofs.lemmas.Iterator.Adapters.{position_from-zero}
-use Rattle.policy_set.specs.Tables.{without, erase, lookup, row_last, moved_last, Once}
+use Rattle.policy_set.specs.Tables.{one_if, without, erase, lookup, row_last, moved_last, Once}
 use Rattle.policy_set.proofs.Lookups.{no_some, is_some, lookup_key, once_tail, once_head, once_erase, lookup-erase_same, lookup-erase_other}
 
 -- the row has the key
@@ -79,29 +79,27 @@ missed_from key k n (x ∷ xs) e = ⊎_elim
 pub missed_at : {X : Type 0} (key : X → ℕ) (k : ℕ) (xs : List X) → position (has key k) xs ≡ None → Missed key k xs
 missed_at key k xs e = missed_from key k 0 xs (sym (position_from-zero (has key k) xs) ∙ e)
 
--- a row found among the first `used`
-pub found_below : {X : Type 0} (key : X → ℕ) (k : ℕ) (xs : List X) (used i : ℕ) → used ≤ length xs
-    → Found key k (take used xs) i → i < used
-found_below key k xs used i l f = omega (arith, f.within, length-take-le used xs l)
-
 -- what is left after a removal: one row fewer where the key was there
-pub length-erase : {X : Type 0} (key : X → ℕ) (k : ℕ) (xs : List X) (x : X) → lookup key k xs ≡ Some x → length (erase key k xs) + 1 ≡ length xs
-length-erase key k [] x e = no_some x e
-length-erase key k (y ∷ xs) x e = go (length-erase key k xs x) (eqb (key y) k) e
+pub erased_length : {X : Type 0} (key : X → ℕ) (k : ℕ) (xs : List X) → length (erase key k xs) + one_if (option_is_some (lookup key k xs)) ≡ length xs
+erased_length key k [] = refl
+erased_length key k (x ∷ xs) = go (erased_length key k xs) (eqb (key x) k)
   where
-    go : (lookup key k xs ≡ Some x → length (erase key k xs) + 1 ≡ length xs) → (b : Bool) → cond b (Some y) (lookup key k xs) ≡ Some x
-        → length (cond b xs (y ∷ erase key k xs)) + 1 ≡ suc (length xs)
-    go ih true q = omega arith
-    go ih false q = omega (arith, ih q)
+    go : length (erase key k xs) + one_if (option_is_some (lookup key k xs)) ≡ length xs → (c : Bool)
+        → length (cond c xs (x ∷ erase key k xs)) + one_if (option_is_some (cond c (Some x) (lookup key k xs))) ≡ suc (length xs)
+    go ih true = omega arith
+    go ih false = omega (arith, ih)
+
+fewer : {X : Type 0} (key : X → ℕ) (k : ℕ) (xs : List X) (o : Option X) → lookup key k xs ≡ o → length (erase key k xs) + one_if (option_is_some o) ≡ length xs
+fewer {X} key k xs o e = ap (λ (p : Option X). length (erase key k xs) + one_if (option_is_some p)) (sym e) ∙ erased_length key k xs
 
 -- there is room for a row that is put
-pub put-fits : {X : Type 0} (key : X → ℕ) (k : ℕ) (xs ys : List X) (used rest : ℕ) → used ≤ length xs → length ys ≡ length xs
-    → rest ≤ used → take rest ys ≡ erase key k (take used xs) → (lookup key k (take used xs) ≡ None → used < length xs) → rest < length ys
-put-fits key k xs ys used rest h l n a room = go (lookup key k (take used xs)) refl
+pub put_fits : {X : Type 0} (key : X → ℕ) (k : ℕ) (xs ys : List X) (places : ℕ) → ys ≡ erase key k xs → length xs ≤ places
+    → (lookup key k xs ≡ None → length xs < places) → length ys < places
+put_fits key k xs ys places a l room = go (lookup key k xs) refl
   where
-    go : (o : Option _) → lookup key k (take used xs) ≡ o → rest < length ys
-    go None e = omega (arith, room e)
-    go (Some x) e = omega (arith, length-erase key k (take used xs) x e, ap length a, length-take-le used xs h, length-take-le rest ys (omega arith))
+    go : (o : Option _) → lookup key k xs ≡ o → length ys < places
+    go None e = omega (arith, room e, fewer key k xs None e, ap length a)
+    go (Some x) e = omega (arith, l, fewer key k xs (Some x) e, ap length a)
 
 -- the row that was found is moved last
 pub moved_found : {X : Type 0} (key : X → ℕ) (k : ℕ) (xs : List X) (i : ℕ) → Found key k xs i → without i xs ++ take 1 (drop i xs) ≡ moved_last key k xs
@@ -123,24 +121,6 @@ moved_found {X} key k xs i f = go (lookup key k xs) refl
         ∙ (ap (λ y. without i xs ++ y ∷ []) v
         ∙ ap (λ (ys : List X). ys ++ x ∷ []) (sym f.erased ∙ ap (λ j. erase key j xs) (sym (lookup_key key k xs x e))))
 
-pub length_moved : {X : Type 0} (key : X → ℕ) (k : ℕ) (xs : List X) → length (moved_last key k xs) ≡ length xs
-length_moved {X} key k xs = go (lookup key k xs) refl
-  where
-    go : (o : Option X) → lookup key k xs ≡ o → length (row_last key o xs) ≡ length xs
-    go None e = refl
-    go (Some x) e =
-        let n = lookup_key key k xs x e in
-        let l : length (erase key (key x) xs) + 1 ≡ length xs = ap (λ j. length (erase key j xs) + 1) n ∙ length-erase key k xs x e in
-        length_push (erase key (key x) xs) x ∙ l
-
-pub moved_front : {X : Type 0} (key : X → ℕ) (k : ℕ) (xs zs post : List X) (used i : ℕ) → used ≤ length xs → Found key k (take used xs) i
-    → zs ≡ without i (take used xs) ++ take 1 (drop i (take used xs)) → take used (zs ++ post) ≡ moved_last key k (take used xs)
-moved_front {X} key k xs zs post used i l f e =
-    let m : zs ≡ moved_last key k (take used xs) =
-    e ∙ moved_found key k (take used xs) i f in
-    let n : length zs ≡ used = ap length m ∙ (length_moved key k (take used xs) ∙ length-take-le used xs l) in
-    take_at zs post used n ∙ m
-
 -- tables with the same keys are equally long
 pub length_by_keys : {X Y : Type 0} (f : X → ℕ) (g : Y → ℕ) (xs : List X) (ys : List Y) → Once f xs → Once g ys
     → ((k : ℕ) → option_is_some (lookup f k xs) ≡ option_is_some (lookup g k ys)) → length xs ≡ length ys
@@ -150,7 +130,7 @@ length_by_keys f g [] (y ∷ ys) a b same =
     absurd (false≢true (same (g y) ∙ e))
 length_by_keys {X} {Y} f g (x ∷ xs) ys a b same =
     let found = is_some (lookup g (f x) ys) (sym (same (f x)) ∙ ap option_is_some (cond-true _ (Some x) (lookup f (f x) xs) (eq-eqb (f x) (f x) refl))) in
-    omega (arith, length_by_keys f g xs (erase g (f x) ys) (once_tail f x xs a) (once_erase g (f x) ys b) rest, length-erase g (f x) ys found.0 found.1)
+    omega (arith, length_by_keys f g xs (erase g (f x) ys) (once_tail f x xs a) (once_erase g (f x) ys b) rest, fewer g (f x) ys (Some found.0) found.1)
   where
     rest : (k : ℕ) → option_is_some (lookup f k xs) ≡ option_is_some (lookup g k (erase g (f x) ys))
     rest k = go (eqb (f x) k) refl

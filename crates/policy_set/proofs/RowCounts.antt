@@ -1,5 +1,5 @@
 -- How many rows there are after a merge.
-use Rattle.std.proofs.Common.{◌≡◌, ℕ, suc, ◌+◌, ◌≤◌, Bool, true, false, cond, not, ◌&&◌, ◌||◌, eqb, List, [], ◌∷◌, ◌++◌, length, filter, map, is_some, Some, None, Option, sym, refl, ap, ◌∙◌, arith}
+use Rattle.std.proofs.Common.{◌≡◌, ℕ, ◌+◌, ◌≤◌, Bool, true, false, cond, not, ◌&&◌, ◌||◌, List, [], ◌∷◌, ◌++◌, length, filter, map, is_some, Some, None, Option, sym, refl, ap, ◌∙◌, arith}
 use Rattle.std.proofs.lemmas.List.{length_push}
 use Rattle.std.proofs.lemmas.Bool.{false≢true, eq-eqb, ne_eqb, or_left, or_right, cond_both}
 use Rattle.policy_set.specs.declared.rows.Renaming.{Renaming}
@@ -10,19 +10,11 @@ use Rattle.policy_set.specs.Sound.{Sound, member}
 use Rattle.policy_set.specs.Merge.{among, noted, gather, gathered, final, origin, renamed_template, renamed_row, merged, is_more, rows_more}
 use Rattle.policy_set.specs.MergeLaw.{clash, Chosen, FinalIds, RowsCounted}
 use Rattle.policy_set.proofs.Lookups.{some_same, lookup-put, once_put, once_tail, once_head}
+use Rattle.policy_set.proofs.Places.{erased_length}
 use Rattle.policy_set.proofs.PutAll.{head_there, rest_there}
 use Rattle.policy_set.proofs.Gathered.{gathers}
 use Rattle.policy_set.proofs.FinalIds.{moves, final_ids, unbound}
 use Rattle.policy_set.proofs.NameSearch.{length_less, among-rest, keys, length_keys, among_keys}
-
-erased_length : {X : Type 0} (key : X → ℕ) (k : ℕ) (xs : List X) → length (erase key k xs) + one_if (is_some (lookup key k xs)) ≡ length xs
-erased_length key k [] = refl
-erased_length key k (x ∷ xs) = go (erased_length key k xs) (eqb (key x) k)
-  where
-    go : length (erase key k xs) + one_if (is_some (lookup key k xs)) ≡ length xs → (c : Bool)
-        → length (cond c xs (x ∷ erase key k xs)) + one_if (is_some (cond c (Some x) (lookup key k xs))) ≡ suc (length xs)
-    go ih true = omega arith
-    go ih false = omega (arith, ih)
 
 pub put-length : {X : Type 0} (key : X → ℕ) (x : X) (xs : List X) → length (put_last key x xs) ≡ length xs + one_if (not (is_some (lookup key (key x) xs)))
 put-length key x xs = length_push (erase key (key x) xs) x ∙ go (is_some (lookup key (key x) xs)) (erased_length key (key x) xs)

@@ -1,6 +1,6 @@
 -- One turn of each loop of a merge.
-use Rattle.std.proofs.Common.{◌≡◌, ℕ, ◌+◌, ◌<◌, ◌≤◌, Bool, List, [], ◌∷◌, length, get_or, take, drop, not, is_some, None, Option, sym, refl, ap, ◌∙◌, arith}
-use Rattle.std.proofs.lemmas.List.{at_drop_more, length-take-le}
+use Rattle.std.proofs.Common.{◌≡◌, ℕ, ◌+◌, ◌<◌, ◌≤◌, Bool, List, [], ◌∷◌, length, get_or, drop, not, is_some, None, Option, sym, refl, ap, ◌∙◌, arith}
+use Rattle.std.proofs.lemmas.List.{at_drop_more}
 use Rattle.policy_set.specs.Tables.{one_if, lookup, put_last, put_all}
 use Rattle.policy_set.specs.Merge.{noted, gather}
 use Rattle.policy_set.proofs.RowCounts.{put-length}
@@ -19,7 +19,7 @@ all_length key change live [] = omega arith
 all_length key change live (x ∷ xs) = omega (arith, put-length key (change x) live, all_length key change (put_last key (change x) live) xs)
 
 -- one turn of putting
-put_turn : {X : Type 0} (key : X → ℕ) (change : X → X) (live after incoming : List X) (i : ℕ) (x y : X)
+pub put_turn : {X : Type 0} (key : X → ℕ) (change : X → X) (live after incoming : List X) (i : ℕ) (x y : X)
     → i < length incoming → x ≡ get_or incoming i x → y ≡ change x → after ≡ put_last key y live
     → put_all key change after (drop (i + 1) incoming) ≡ put_all key change live (drop i incoming)
 put_turn key change live after incoming i x y h e q a =
@@ -27,14 +27,13 @@ put_turn key change live after incoming i x y h e q a =
     ∙ sym (at_drop_more (put_all key change live) incoming i x h)
 
 -- each turn has room where all turns have
-pub put_room : {X : Type 0} (key : X → ℕ) (change : X → X) (rows incoming all : List X) (n i : ℕ) (x y : X)
-    → i < length incoming → x ≡ get_or incoming i x → y ≡ change x → n ≤ length rows
-    → put_all key change (take n rows) (drop i incoming) ≡ all → length all ≤ length rows
-    → lookup key (key y) (take n rows) ≡ None → n < length rows
-put_room key change rows incoming all n i x y h e q l eq fits absent =
-    let one : length (put_last key y (take n rows)) ≡ length (take n rows) + 1 =
-    put-length key y (take n rows) ∙ ap (λ (o : Option _). length (take n rows) + one_if (not (is_some o))) absent in
-    let here = length-take-le n rows l in
-    let more = all_length key change (put_last key y (take n rows)) (drop (i + 1) incoming) in
-    let same = ap length (put_turn key change (take n rows) (put_last key y (take n rows)) incoming i x y h e q refl ∙ eq) in
+pub put_room : {X : Type 0} (key : X → ℕ) (change : X → X) (live incoming all : List X) (places i : ℕ) (x y : X)
+    → i < length incoming → x ≡ get_or incoming i x → y ≡ change x
+    → put_all key change live (drop i incoming) ≡ all → length all ≤ places
+    → lookup key (key y) live ≡ None → length live < places
+put_room key change live incoming all places i x y h e q eq fits absent =
+    let one : length (put_last key y live) ≡ length live + 1 =
+    put-length key y live ∙ ap (λ (o : Option _). length live + one_if (not (is_some o))) absent in
+    let more = all_length key change (put_last key y live) (drop (i + 1) incoming) in
+    let same = ap length (put_turn key change live (put_last key y live) incoming i x y h e q refl ∙ eq) in
     omega arith

@@ -1,9 +1,8 @@
-// Putting all incoming rows into a table, under their final ids.
-ghost use Rattle.std.specs.Prelude.{◌≡◌, ℕ, ◌≤◌, length, take};
-ghost use Rattle.policy_set.specs.Tables.{put_all};
+// Rows under their final ids.
+ghost use Rattle.std.specs.Prelude.{◌≡◌, ℕ};
 ghost use Rattle.policy_set.specs.Merge.{final, renamed_template, renamed_row, renamed_member};
 
-use crate::keyed::{Keyed, get, put};
+use crate::keyed::{Keyed, get};
 use crate::rows::{Member, PolicyRow, Renaming};
 use policy::template::Template;
 use refusals::NameNumber;
@@ -58,25 +57,4 @@ impl Renamed for Member {
             template: final_id(pairs, self.template),
         }
     }
-}
-
-// Puts each incoming row last among the first `used`, under its final ids. The new count.
-// Over a slice, as in `keyed`; the count of used rows stands beside.
-pub(crate) fn put_all<R: Renamed + Copy>(
-    rows: &mut [R],
-    used: usize,
-    incoming: &[R],
-    pairs: &[Renaming],
-) -> usize
-    requires used { used ≤ length rows.old }
-    requires room { length (put_all R.Keyed.naming (R.Renamed.renamed (final pairs.now)) (take used rows.old) incoming.now) ≤ length rows.old }
-    ensures len { length rows.new ≡ length rows.old }
-    ensures count { result ≤ length rows.old }
-    ensures after { take result rows.new ≡ put_all R.Keyed.naming (R.Renamed.renamed (final pairs.entry.now)) (take used rows.old) incoming.now }
-{
-    let mut n = used;
-    for row in incoming {
-        n = put(rows, n, row.under(pairs));
-    }
-    n
 }

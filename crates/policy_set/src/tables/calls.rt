@@ -1,6 +1,6 @@
 // The calls on a table, by the rows that it holds.
-ghost use Rattle.std.specs.Prelude.{◌≡◌, ◌+◌, ◌<◌, [], ◌∷◌, ◌++◌, length, nat_le, None};
-ghost use Rattle.policy_set.specs.Tables.{lookup, erase, moved_last, or_inserted, has_room};
+ghost use Rattle.std.specs.Prelude.{◌≡◌, ◌+◌, ◌<◌, ◌==◌, [], ◌∷◌, ◌++◌, length, take, drop, position, nat_le, None};
+ghost use Rattle.policy_set.specs.Tables.{lookup, without, erase, moved_last, or_inserted, put_last, has_room};
 ghost use Rattle.policy_set.specs.Held.{rows_in};
 
 use crate::keyed;
@@ -15,6 +15,7 @@ impl<R: Keyed + Copy, const PLACES: usize> Table<R, PLACES> {
     {
         Table {
             rows: [blank; PLACES],
+            keys: [0; PLACES],
             used: 0,
         }
     }
@@ -26,11 +27,19 @@ impl<R: Keyed + Copy, const PLACES: usize> Table<R, PLACES> {
         &self.rows[..self.used]
     }
 
+    // The place of the row of a key.
+    fn place(&self, key: NameNumber) -> Option<usize>
+        ensures { result ≡ position (λ row. R.Keyed.naming row == key) (rows_in self.now) }
+    {
+        keyed::find(&self.keys[..self.used], key)
+    }
+
     // The row of a key.
     pub(crate) fn get(&self, key: NameNumber) -> Option<R>
         ensures { result ≡ lookup R.Keyed.naming key (rows_in self.now) }
     {
-        keyed::get(self.rows(), key)
+        let i = self.place(key)?;
+        Some(self.rows()[i])
     }
 
     // Whether there is room for one row more.
@@ -53,7 +62,9 @@ impl<R: Keyed + Copy, const PLACES: usize> Table<R, PLACES> {
         requires new { lookup R.Keyed.naming (R.Keyed.naming row) (rows_in self.old) ≡ None }
         ensures { rows_in self.new ≡ rows_in self.old ++ row ∷ [] }
     {
-        self.used = keyed::append(&mut self.rows, self.used, row);
+        self.rows[self.used] = row;
+        self.keys[self.used] = row.key();
+        self.used += 1;
     }
 
     // Appends a row unless one of its key is there.
@@ -66,20 +77,41 @@ impl<R: Keyed + Copy, const PLACES: usize> Table<R, PLACES> {
         }
     }
 
-    // Takes out the row of a key, if there is one.
-    pub(crate) fn remove(&mut self, key: NameNumber)
-        ensures { rows_in self.new ≡ erase R.Keyed.naming key (rows_in self.old) }
+    // Moves the row at a place last.
+    fn move_from(&mut self, place: usize)
+        requires { place < length (rows_in self.old) }
+        ensures used { self.new.used ≡ self.old.used }
+        ensures after { rows_in self.new ≡ without place (rows_in self.old) ++ take 1 (drop place (rows_in self.old)) }
     {
-        self.used = keyed::remove(&mut self.rows, self.used, key);
+        keyed::move_last(&mut self.keys[..self.used], place);
+        keyed::move_last(&mut self.rows[..self.used], place);
     }
 
     // Moves the row of a key last, if there is one.
     pub(crate) fn move_last(&mut self, key: NameNumber)
         ensures { rows_in self.new ≡ moved_last R.Keyed.naming key (rows_in self.old) }
     {
-        let rows = &mut self.rows[..self.used];
-        if let Some(i) = keyed::find(rows, key) {
-            keyed::move_last(rows, i);
+        if let Some(i) = self.place(key) {
+            self.move_from(i);
         }
+    }
+
+    // Takes out the row of a key, if there is one: moved last, it goes with the last used place.
+    pub(crate) fn remove(&mut self, key: NameNumber)
+        ensures { rows_in self.new ≡ erase R.Keyed.naming key (rows_in self.old) }
+    {
+        if let Some(i) = self.place(key) {
+            self.move_from(i);
+            self.used -= 1;
+        }
+    }
+
+    // Puts a row last; a row with its key goes out.
+    pub(crate) fn put(&mut self, row: R)
+        requires { lookup R.Keyed.naming (R.Keyed.naming row) (rows_in self.old) ≡ None → length (rows_in self.old) < PLACES }
+        ensures { rows_in self.new ≡ put_last R.Keyed.naming row (rows_in self.old) }
+    {
+        self.remove(row.key());
+        self.push(row);
     }
 }
