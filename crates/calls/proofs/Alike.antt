@@ -3,7 +3,7 @@ use Rattle.std.proofs.Common.{◌≡◌, ℕ, zero, suc, ◌<◌, Bool, true, fa
 use Rattle.std.proofs.lemmas.Bool.{and_from, ltb-true}
 use Rattle.refusals.specs.declared.refusal.Refusal.{Refusal}
 use Rattle.refusals.specs.declared.refusal.Refusal.TheVariants.{UnknownClause}
-use Rattle.clauses.specs.Book.{Clause, Decides, at, same_content, same_clause}
+use Rattle.clauses.specs.Book.{Clause, DecidesEquality, at, same_content, same_clause}
 use Rattle.policy.specs.declared.template.Template.{Template}
 use Rattle.policy.specs.declared.values.SlotEnv.{SlotEnv}
 use Rattle.policy.specs.Arity.{Parts}
@@ -27,7 +27,7 @@ known_below false e h = let z : ◌≡◌ {A = ℕ} 0 1 = cc in absurd (omega ar
 pub clause_of_known : {C : Type 0} (count : ℕ) (cs : List (Clause C)) (t : Template) → template_known count cs t ≡ Ok tt → clause_known cs t.clause ≡ Ok tt
 clause_of_known count cs t e = sym (accepted_then (names_known count (template_names t)) (clause_known cs t.clause) tt (sym e)).1
 
-module _ {C : Type 0} (equal : C → C → Bool) (cs : List (Clause C)) (decides : Decides equal) where
+module _ {C : Type 0} (equal : C → C → Bool) (cs : List (Clause C)) (decides : DecidesEquality equal) where
   clause_itself : (o : Option ℕ) → clause_known cs o ≡ Ok tt → option_equal (same_clause equal cs) o o ≡ true
   clause_itself None h = refl
   clause_itself (Some n) h =

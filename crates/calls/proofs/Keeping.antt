@@ -1,7 +1,7 @@
 -- Each call keeps a set and its tally together.
 use Rattle.std.proofs.Common.{◌≡◌, ℕ, Bool, true, false, cond, eqb, List, [], ◌∷◌, Some, None, Ok, Option, sym, refl, ◌∙◌, subst}
 use Rattle.std.proofs.lemmas.Bool.{eqb-true, eqb-false}
-use Rattle.clauses.specs.Book.{Clause, Decides, Lawful, same_clause}
+use Rattle.clauses.specs.Book.{Clause, DecidesEquality, Lawful, same_clause}
 use Rattle.names.specs.Names.{Limits}
 use Rattle.policy.specs.Arity.{Parts, parts}
 use Rattle.policy.specs.Known.{names_known, template_known, policy_known, clause_known, policy_names}
@@ -42,7 +42,7 @@ fits_after Fits before after id o e f g k u h = go (eqb id k) (sym (e k) ∙ h)
     go true q = g u q
     go false q = f k u q
 
-module _ {C : Type 0} (equal : C → C → Bool) (cs : List (Clause C)) (decides : Decides equal) (m : Maps) (tally : Tally) (h : Holds (same_clause equal cs) (Fit cs) m tally) where
+module _ {C : Type 0} (equal : C → C → Bool) (cs : List (Clause C)) (decides : DecidesEquality equal) (m : Maps) (tally : Tally) (h : Holds (same_clause equal cs) (Fit cs) m tally) where
   -- one template is fit, so all are
   with_fit : (after : Maps) (t : Template) → ((k : ℕ) → template_at after k ≡ cond (eqb t.id k) (Some t) (template_at m k)) → Fit cs t → AllFit (Fit cs) after
   with_fit after t e f = fits_after (Fit cs) m after t.id (Some t) e h.fits (λ u q. subst (Fit cs) (some_same t u q) f)
@@ -223,7 +223,7 @@ module _ {C : Type 0} (equal : C → C → Bool) (cs : List (Clause C)) (decides
     }
 
 -- another set is merged in
-pub merged_holds : {C : Type 0} (equal : C → C → Bool) (cs : List (Clause C)) (decides : Decides equal) (live incoming : Maps) (tl ti : Tally)
+pub merged_holds : {C : Type 0} (equal : C → C → Bool) (cs : List (Clause C)) (decides : DecidesEquality equal) (live incoming : Maps) (tl ti : Tally)
     → Holds (same_clause equal cs) (Fit cs) live tl → Holds (same_clause equal cs) (Fit cs) incoming ti
     → (limits : Limits) (texts : List (List ℕ)) (rename : Bool) (room : ℕ) (pairs : List Renaming)
     → Ok pairs ≡ merge_outcome limits texts (same_clause equal cs) live incoming rename room

@@ -1,7 +1,7 @@
 -- The law of one call.
 use Rattle.std.proofs.Common.{◌≡◌, ℕ, Bool, true, false, List, length, is_some, Some, None, Ok, Err, Option, Result, sym, refl, subst}
 use Rattle.refusals.specs.declared.refusal.Refusal.{Refusal}
-use Rattle.clauses.specs.Book.{Clause, Decides, Lawful, same_clause}
+use Rattle.clauses.specs.Book.{Clause, DecidesEquality, Lawful, same_clause}
 use Rattle.names.specs.Names.{Limits}
 use Rattle.policy.specs.Arity.{Parts, parts}
 use Rattle.policy.specs.Known.{and_then}
@@ -21,7 +21,7 @@ use Rattle.calls.specs.declared.call.Side.{Side}
 use Rattle.calls.specs.declared.call.Side.TheVariants.{A, B}
 use Rattle.calls.specs.declared.call.Call.{Call}
 use Rattle.calls.specs.declared.call.Call.TheVariants as call
-use Rattle.calls.specs.Model.{Told, World, tell, maps_at, other, with_maps, with_texts, outcome, answered, step}
+use Rattle.calls.specs.Model.{Told, State, tell, maps_at, other, with_maps, with_texts, outcome, answered, step}
 use Rattle.calls.specs.Model.Told.{done, policy, pairs}
 use Rattle.calls.specs.Law.{Tallies, tally_at, with_tally, fed, TakesLatest, Fit, BothShow, OneCall}
 use Rattle.calls.proofs.Entering.{latest_taken}
@@ -29,7 +29,7 @@ use Rattle.calls.proofs.Keeping.{template_added_holds, static_added_holds, link_
 use Rattle.calls.proofs.Showing.{shown, holds}
 
 -- the maps of one set where they are put
-put_there : (s : Side) (m : Maps) (w : World) → maps_at s (with_maps s m w) ≡ m
+put_there : (s : Side) (m : Maps) (w : State) → maps_at s (with_maps s m w) ≡ m
 put_there A m w = refl
 put_there B m w = refl
 
@@ -38,41 +38,41 @@ module _ {C : Type 0} (equal : C → C → Bool) (cs : List (Clause C)) where
   abbrev Kept : Maps → Tally → Type 0
   Kept m tally = Holds (same_clause equal cs) (Fit cs) m tally
 
-  one_holds : (s : Side) (t : Tallies) (w : World) → BothShow equal cs t w → Kept (maps_at s w) (tally_at s t)
+  one_holds : (s : Side) (t : Tallies) (w : State) → BothShow equal cs t w → Kept (maps_at s w) (tally_at s t)
   one_holds A t w h = holds equal cs w.a t.a h.a
   one_holds B t w h = holds equal cs w.b t.b h.b
 
   -- one set and its tally change
-  put : (s : Side) (t : Tallies) (w : World) (m : Maps) (tally : Tally) → BothShow equal cs t w → Kept m tally → BothShow equal cs (with_tally s tally t) (with_maps s m w)
+  put : (s : Side) (t : Tallies) (w : State) (m : Maps) (tally : Tally) → BothShow equal cs t w → Kept m tally → BothShow equal cs (with_tally s tally t) (with_maps s m w)
   put A t w m tally h k = record { a = shown equal cs m tally k; b = h.b }
   put B t w m tally h k = record { a = h.a; b = shown equal cs m tally k }
 
   -- one set changes, and its tally stays
-  put_maps : (s : Side) (t : Tallies) (w : World) (m : Maps) → BothShow equal cs t w → Kept m (tally_at s t) → BothShow equal cs t (with_maps s m w)
+  put_maps : (s : Side) (t : Tallies) (w : State) (m : Maps) → BothShow equal cs t w → Kept m (tally_at s t) → BothShow equal cs t (with_maps s m w)
   put_maps A t w m h k = record { a = shown equal cs m t.a k; b = h.b }
   put_maps B t w m h k = record { a = h.a; b = shown equal cs m t.b k }
 
   -- nothing changes
-  stay : (s : Side) (t : Tallies) (w : World) → BothShow equal cs t w → BothShow equal cs t (with_maps s (maps_at s w) w)
+  stay : (s : Side) (t : Tallies) (w : State) → BothShow equal cs t w → BothShow equal cs t (with_maps s (maps_at s w) w)
   stay A t w h = record { a = h.a; b = h.b }
   stay B t w h = record { a = h.a; b = h.b }
 
-  other_texts : (t : Tallies) (w : World) (texts : List (List ℕ)) → BothShow equal cs t w → BothShow equal cs t (with_texts texts w)
+  other_texts : (t : Tallies) (w : State) (texts : List (List ℕ)) → BothShow equal cs t w → BothShow equal cs t (with_texts texts w)
   other_texts t w texts h = record { a = h.a; b = h.b }
 
 -- both sets keep each id to one thing
-pub record BothSound (w : World) : Type 0 where
+pub record BothSound (w : State) : Type 0 where
   pub a : Sound w.a
   pub b : Sound w.b
 
-one_sound : (s : Side) (w : World) → BothSound w → Sound (maps_at s w)
+one_sound : (s : Side) (w : State) → BothSound w → Sound (maps_at s w)
 one_sound A w h = h.a
 one_sound B w h = h.b
 
-put_sound : (s : Side) (m : Maps) (w : World) → BothSound (with_maps s m w) → Sound m
+put_sound : (s : Side) (m : Maps) (w : State) → BothSound (with_maps s m w) → Sound m
 put_sound s m w h = subst Sound (put_there s m w) (one_sound s (with_maps s m w) h)
 
-module _ {C : Type 0} (limits : Limits) (equal : C → C → Bool) (cs : List (Clause C)) (lawful : Lawful cs) (decides : Decides equal) (w : World) (t : Tallies) (h : BothShow equal cs t w) where
+module _ {C : Type 0} (limits : Limits) (equal : C → C → Bool) (cs : List (Clause C)) (lawful : Lawful cs) (decides : DecidesEquality equal) (w : State) (t : Tallies) (h : BothShow equal cs t w) where
   at_side : (s : Side) → Kept equal cs (maps_at s w) (tally_at s t)
   at_side s = one_holds equal cs s t w h
 
@@ -188,12 +188,12 @@ module _ {C : Type 0} (limits : Limits) (equal : C → C → Bool) (cs : List (C
   takes_latest (call.Merge s rename room) = tt
 
 -- the law of one call
-pub one_call : {C : Type 0} (limits : Limits) (equal : C → C → Bool) (cs : List (Clause C)) → Lawful cs → Decides equal
-    → (w end : World) (c : Call) (answer : Result Told Refusal) → answer ≡ answered limits equal cs w c → end ≡ step limits equal cs w c → BothSound end → OneCall equal cs w end c answer
+pub one_call : {C : Type 0} (limits : Limits) (equal : C → C → Bool) (cs : List (Clause C)) → Lawful cs → DecidesEquality equal
+    → (w end : State) (c : Call) (answer : Result Told Refusal) → answer ≡ answered limits equal cs w c → end ≡ step limits equal cs w c → BothSound end → OneCall equal cs w end c answer
 one_call limits equal cs lawful decides w end c answer e f so = record {
   shows = λ t h.
       subst (λ (r : Result Told Refusal). BothShow equal cs (fed (same_clause equal cs) t c r) end) (sym e)
-      (subst (λ (x : World). BothShow equal cs (fed (same_clause equal cs) t c (answered limits equal cs w c)) x) (sym f)
+      (subst (λ (x : State). BothShow equal cs (fed (same_clause equal cs) t c (answered limits equal cs w c)) x) (sym f)
       (shows_after limits equal cs lawful decides w t h c (subst BothSound f so)));
   takes = λ t h.
       subst (λ (r : Result Told Refusal). TakesLatest (same_clause equal cs) t c r) (sym e) (takes_latest limits equal cs lawful decides w t h c);

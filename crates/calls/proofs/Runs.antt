@@ -9,7 +9,7 @@ use Rattle.clauses.specs.Book.{Clause, same_clause}
 use Rattle.names.specs.Names.{Limits}
 use Rattle.policy_set.proofs.Lookups.{no_some, some_same}
 use Rattle.calls.specs.declared.call.Call.{Call}
-use Rattle.calls.specs.Model.{Told, World, answered, step, after, answers}
+use Rattle.calls.specs.Model.{Told, State, answered, step, after, answers}
 use Rattle.calls.specs.Law.{Tallies, fed, tallied, TakesLatest, BothShow, OneCall, Throughout, Ran}
 
 -- what stands at a place of a list with one more at its end
@@ -20,16 +20,16 @@ pushed_at (z ∷ xs) x y zero e = inl (omega arith, e)
 pushed_at (z ∷ xs) x y (suc n) e = elim (pushed_at xs x y n e) [ inl h ↦ inl (omega (arith, h.0), h.1) | inr h ↦ inr (ap suc h.0, h.1) ]
 
 module _ {C : Type 0} (limits : Limits) (equal : C → C → Bool) (cs : List (Clause C)) where
-  after_more : (w : World) (xs : List Call) (c : Call) → after limits equal cs w (xs ++ c ∷ []) ≡ step limits equal cs (after limits equal cs w xs) c
+  after_more : (w : State) (xs : List Call) (c : Call) → after limits equal cs w (xs ++ c ∷ []) ≡ step limits equal cs (after limits equal cs w xs) c
   after_more w [] c = refl
   after_more w (x ∷ xs) c = after_more (step limits equal cs w x) xs c
 
-  answers_more : (w : World) (xs : List Call) (c : Call)
+  answers_more : (w : State) (xs : List Call) (c : Call)
       → answers limits equal cs w (xs ++ c ∷ []) ≡ answers limits equal cs w xs ++ answered limits equal cs (after limits equal cs w xs) c ∷ []
   answers_more w [] c = refl
   answers_more w (x ∷ xs) c = ap (λ (rs : List (Result Told Refusal)). answered limits equal cs w x ∷ rs) (answers_more (step limits equal cs w x) xs c)
 
-  as_many : (w : World) (xs : List Call) → length (answers limits equal cs w xs) ≡ length xs
+  as_many : (w : State) (xs : List Call) → length (answers limits equal cs w xs) ≡ length xs
   as_many w [] = refl
   as_many w (x ∷ xs) = ap suc (as_many (step limits equal cs w x) xs)
 
@@ -41,17 +41,17 @@ module _ {C : Type 0} (limits : Limits) (equal : C → C → Bool) (cs : List (C
   tallied_more t (x ∷ xs) (b ∷ rs) c a e = tallied_more (fed (same_clause equal cs) t x b) xs rs c a (omega (arith, e))
 
   -- what was shown after so many calls
-  abbrev AfterSome : Tallies → World → List Call → List (Result Told Refusal) → ℕ → Type 0
+  abbrev AfterSome : Tallies → State → List Call → List (Result Told Refusal) → ℕ → Type 0
   AfterSome t w xs rs n = BothShow equal cs (tallied (same_clause equal cs) t (take n xs) (take n rs)) (after limits equal cs w (take n xs))
 
-  before_shown : (t : Tallies) (w : World) (xs : List Call) (rs : List (Result Told Refusal)) → length rs ≡ length xs → Throughout equal cs limits t w xs rs
+  before_shown : (t : Tallies) (w : State) (xs : List Call) (rs : List (Result Told Refusal)) → length rs ≡ length xs → Throughout equal cs limits t w xs rs
       → BothShow equal cs (tallied (same_clause equal cs) t xs rs) (after limits equal cs w xs)
   before_shown t w xs rs e h =
       subst (λ (bs : List (Result Told Refusal)). BothShow equal cs (tallied (same_clause equal cs) t xs bs) (after limits equal cs w xs)) (take_all (length xs) rs (omega (arith, e)))
       (subst (λ (ys : List Call). BothShow equal cs (tallied (same_clause equal cs) t ys (take (length xs) rs)) (after limits equal cs w ys)) (take_all (length xs) xs (omega arith))
       (h.shows (length xs) (omega arith)))
 
-  throughout_more : (t : Tallies) (w : World) (xs : List Call) (rs : List (Result Told Refusal)) (c : Call) (a : Result Told Refusal) → length rs ≡ length xs → Throughout equal cs limits t w xs rs
+  throughout_more : (t : Tallies) (w : State) (xs : List Call) (rs : List (Result Told Refusal)) (c : Call) (a : Result Told Refusal) → length rs ≡ length xs → Throughout equal cs limits t w xs rs
       → OneCall equal cs (after limits equal cs w xs) (step limits equal cs (after limits equal cs w xs) c) c a
       → Throughout equal cs limits t w (xs ++ c ∷ []) (rs ++ a ∷ [])
   throughout_more t w xs rs c a e h one = record { shows = λ n l. show n l (ltb n (length xs + 1)) refl; takes = λ n d b p q. takes n d b (pushed_at xs c d n p) (pushed_at rs a b n q) }
@@ -83,7 +83,7 @@ module _ {C : Type 0} (limits : Limits) (equal : C → C → Bool) (cs : List (C
           rw (r.0, r.1, x, y, ← p.1, ← q.1) (one.takes (tallied (same_clause equal cs) t xs rs) (before_shown t w xs rs e h))
 
   -- no call was made
-  pub ran_none : (w : World) → Ran equal cs limits w w [] []
+  pub ran_none : (w : State) → Ran equal cs limits w w [] []
   ran_none w = record { answers = refl; left = refl; law = λ t h. record { shows = λ n l. none t h n; takes = λ n c a p q. no_some c p } }
     where
       none : (t : Tallies) → BothShow equal cs t w → (n : ℕ) → AfterSome t w [] [] n
@@ -91,16 +91,16 @@ module _ {C : Type 0} (limits : Limits) (equal : C → C → Bool) (cs : List (C
       none t h (suc n) = h
 
   -- one call more was made, on a book of the same limits
-  pub ran_more : (now : Limits) → now ≡ limits → (w end new : World) (xs ys : List Call) (rs ss : List (Result Told Refusal)) (c : Call) (a : Result Told Refusal) → Ran equal cs limits w end xs rs
+  pub ran_more : (now : Limits) → now ≡ limits → (w end new : State) (xs ys : List Call) (rs ss : List (Result Told Refusal)) (c : Call) (a : Result Told Refusal) → Ran equal cs limits w end xs rs
       → a ≡ answered now equal cs end c → new ≡ step now equal cs end c → OneCall equal cs end new c a
       → ys ≡ xs ++ c ∷ [] → ss ≡ rs ++ a ∷ [] → Ran equal cs limits w new ys ss
   ran_more now l w end new xs ys rs ss c a h e f one p q =
       subst (λ (zs : List Call). Ran equal cs limits w new zs ss) (sym p) (subst (λ (ts : List (Result Told Refusal)). Ran equal cs limits w new (xs ++ c ∷ []) ts) (sym q) record {
-        answers = ap (λ (b : Result Told Refusal). rs ++ b ∷ []) (e ∙ (ap (λ (k : Limits). answered k equal cs end c) l ∙ ap (λ (x : World). answered limits equal cs x c) h.left))
+        answers = ap (λ (b : Result Told Refusal). rs ++ b ∷ []) (e ∙ (ap (λ (k : Limits). answered k equal cs end c) l ∙ ap (λ (x : State). answered limits equal cs x c) h.left))
             ∙ (ap (λ (bs : List (Result Told Refusal)). bs ++ answered limits equal cs (after limits equal cs w xs) c ∷ []) h.answers ∙ sym (answers_more w xs c));
-        left = made ∙ (ap (λ (x : World). step limits equal cs x c) h.left ∙ sym (after_more w xs c));
+        left = made ∙ (ap (λ (x : State). step limits equal cs x c) h.left ∙ sym (after_more w xs c));
         law = λ t g. throughout_more t w xs rs c a (ap length h.answers ∙ as_many w xs) (h.law t g)
-            (subst (λ (x : World). OneCall equal cs x (step limits equal cs x c) c a) h.left (subst (λ (x : World). OneCall equal cs end x c a) made one));
+            (subst (λ (x : State). OneCall equal cs x (step limits equal cs x c) c a) h.left (subst (λ (x : State). OneCall equal cs end x c a) made one));
       })
     where
       made : new ≡ step limits equal cs end c

@@ -20,7 +20,7 @@ use Rattle.calls.specs.declared.call.Side.{Side}
 use Rattle.calls.specs.declared.call.Side.TheVariants.{A, B}
 use Rattle.calls.specs.declared.call.Call.{Call}
 use Rattle.calls.specs.declared.call.Call.TheVariants as call
-use Rattle.calls.specs.Model.{Told, World, other, after, after as left, answers}
+use Rattle.calls.specs.Model.{Told, State, other, after, after as left, answers}
 use Rattle.calls.specs.Model.Told.{done, policy, pairs}
 
 -- The tallies of both sets.
@@ -122,24 +122,24 @@ module _ {C : Type 0} (equal : C → C → Bool) (cs : List (Clause C)) where
     pub fits : AllFit (Fit cs) m
 
   -- Both sets show their tallies.
-  pub record BothShow (t : Tallies) (w : World) : Type 0 where
-    pub a : Shown w.a t.a
-    pub b : Shown w.b t.b
+  pub record BothShow (t : Tallies) (q : State) : Type 0 where
+    pub a : Shown q.a t.a
+    pub b : Shown q.b t.b
 
   -- One call: from tallies that both sets show, those fed with it are shown, and what it takes back equals its latest grant.
-  pub record OneCall (before after : World) (c : Call) (answer : Result Told Refusal) : Type 0 where
+  pub record OneCall (before after : State) (c : Call) (answer : Result Told Refusal) : Type 0 where
     pub shows : (t : Tallies) → BothShow t before → BothShow (fed (same_clause equal cs) t c answer) after
     pub takes : (t : Tallies) → BothShow t before → TakesLatest (same_clause equal cs) t c answer
 
   -- At first and after each call both sets show their tallies, and each policy taken back equals its latest grant.
-  pub record Throughout (limits : Limits) (t : Tallies) (w : World) (calls : List Call) (told : List (Result Told Refusal)) : Type 0 where
+  pub record Throughout (limits : Limits) (t : Tallies) (q : State) (calls : List Call) (told : List (Result Told Refusal)) : Type 0 where
     pub shows : (n : ℕ) → n ≤ length calls
-        → BothShow (tallied (same_clause equal cs) t (take n calls) (take n told)) (after limits equal cs w (take n calls))
+        → BothShow (tallied (same_clause equal cs) t (take n calls) (take n told)) (after limits equal cs q (take n calls))
     pub takes : (n : ℕ) (c : Call) (answer : Result Told Refusal) → slice_get calls n ≡ Some c → slice_get told n ≡ Some answer
         → TakesLatest (same_clause equal cs) (tallied (same_clause equal cs) t (take n calls) (take n told)) c answer
 
   -- A list of calls was made: what they answered, what they left, and the law.
-  pub record Ran (limits : Limits) (before after : World) (calls : List Call) (told : List (Result Told Refusal)) : Type 0 where
+  pub record Ran (limits : Limits) (before after : State) (calls : List Call) (told : List (Result Told Refusal)) : Type 0 where
     pub answers : told ≡ answers limits equal cs before calls
     pub left : after ≡ left limits equal cs before calls
     pub law : (t : Tallies) → BothShow t before → Throughout limits t before calls told

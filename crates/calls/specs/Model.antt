@@ -53,72 +53,72 @@ given (Ok u) calls = calls
 given (Err e) calls = 0
 
 -- The maps of both sets, and the texts of the name book.
-pub record World : Type 0 where
+pub record State : Type 0 where
   pub a : Maps
   pub b : Maps
   pub texts : List (List ℕ)
 
 -- Two empty sets on a name book.
-abbrev pub empty_sets : List (List ℕ) → World
+abbrev pub empty_sets : List (List ℕ) → State
 empty_sets texts = record { a = empty; b = empty; texts = texts }
 
 -- The maps of one set.
-abbrev pub maps_at : Side → World → Maps
-maps_at A w = w.a
-maps_at B w = w.b
+abbrev pub maps_at : Side → State → Maps
+maps_at A q = q.a
+maps_at B q = q.b
 
 -- The other set.
 abbrev pub other : Side → Side
 other A = B
 other B = A
 
--- The world with other maps of one set.
-abbrev pub with_maps : Side → Maps → World → World
-with_maps A m w = record { a = m; b = w.b; texts = w.texts }
-with_maps B m w = record { a = w.a; b = m; texts = w.texts }
+-- The state with other maps of one set.
+abbrev pub with_maps : Side → Maps → State → State
+with_maps A m q = record { a = m; b = q.b; texts = q.texts }
+with_maps B m q = record { a = q.a; b = m; texts = q.texts }
 
--- The world with other texts.
-abbrev pub with_texts : List (List ℕ) → World → World
-with_texts ts w = record { a = w.a; b = w.b; texts = ts }
+-- The state with other texts.
+abbrev pub with_texts : List (List ℕ) → State → State
+with_texts ts q = record { a = q.a; b = q.b; texts = ts }
 
 -- What calls answer and leave, for the limits of the name book, a test on clauses' contents and the clauses of the clause book.
 module _ {C : Type 0} (limits : Limits) (equal : C → C → Bool) (cs : List (Clause C)) where
   -- The pairs of a merge into one set, or why it is refused.
-  abbrev pub outcome : World → Side → Bool → ℕ → Result (List Renaming) Refusal
-  outcome w s rename room = merge_outcome limits w.texts (same_clause equal cs) (maps_at s w) (maps_at (other s) w) rename room
+  abbrev pub outcome : State → Side → Bool → ℕ → Result (List Renaming) Refusal
+  outcome q s rename room = merge_outcome limits q.texts (same_clause equal cs) (maps_at s q) (maps_at (other s) q) rename room
 
   -- The answer of a call.
-  abbrev pub answered : World → Call → Result Told Refusal
-  answered w (call.Name text) = tell number (name_answer limits w.texts text.now)
-  answered w (call.AddTemplate s t) = tell (λ _. done) (add_template_answer (length w.texts) cs (maps_at s w) t)
-  answered w (call.AddStatic s p) = tell (λ _. done) (add_static_answer (length w.texts) cs (maps_at s w) p.body)
-  answered w (call.Add s p) = tell (λ _. done) (add_answer (length w.texts) cs (same_clause equal cs) (maps_at s w) p)
-  answered w (call.Link s t new values) = tell policy (link_answer (length w.texts) (maps_at s w) t new values)
-  answered w (call.Unlink s id) = tell policy (unlink_answer (length w.texts) (maps_at s w) id)
-  answered w (call.RemoveStatic s id) = tell policy (remove_static_answer (length w.texts) (maps_at s w) id)
-  answered w (call.RemoveTemplate s id) = tell template (remove_template_answer (length w.texts) (maps_at s w) id)
-  answered w (call.Merge s rename room) = tell pairs (outcome w s rename room)
+  abbrev pub answered : State → Call → Result Told Refusal
+  answered q (call.Name text) = tell number (name_answer limits q.texts text.now)
+  answered q (call.AddTemplate s t) = tell (λ _. done) (add_template_answer (length q.texts) cs (maps_at s q) t)
+  answered q (call.AddStatic s p) = tell (λ _. done) (add_static_answer (length q.texts) cs (maps_at s q) p.body)
+  answered q (call.Add s p) = tell (λ _. done) (add_answer (length q.texts) cs (same_clause equal cs) (maps_at s q) p)
+  answered q (call.Link s t new values) = tell policy (link_answer (length q.texts) (maps_at s q) t new values)
+  answered q (call.Unlink s id) = tell policy (unlink_answer (length q.texts) (maps_at s q) id)
+  answered q (call.RemoveStatic s id) = tell policy (remove_static_answer (length q.texts) (maps_at s q) id)
+  answered q (call.RemoveTemplate s id) = tell template (remove_template_answer (length q.texts) (maps_at s q) id)
+  answered q (call.Merge s rename room) = tell pairs (outcome q s rename room)
 
-  -- The world after a call.
-  abbrev pub step : World → Call → World
-  step w (call.Name text) = with_texts (name_after limits w.texts text.now) w
-  step w (call.AddTemplate s t) = with_maps s (add_template_after (length w.texts) cs (maps_at s w) t) w
-  step w (call.AddStatic s p) = with_maps s (add_static_after (length w.texts) cs (maps_at s w) p.body) w
-  step w (call.Add s p) = with_maps s (add_after (length w.texts) cs (same_clause equal cs) (maps_at s w) p) w
-  step w (call.Link s t new values) = with_maps s (link_after (length w.texts) (maps_at s w) t new values) w
-  step w (call.Unlink s id) = with_maps s (unlink_after (length w.texts) (maps_at s w) id) w
-  step w (call.RemoveStatic s id) = with_maps s (remove_static_after (length w.texts) (maps_at s w) id) w
-  step w (call.RemoveTemplate s id) = with_maps s (remove_template_after (length w.texts) (maps_at s w) id) w
-  step w (call.Merge s rename room) =
-      with_texts (merge_texts (outcome w s rename room) w.texts (same_clause equal cs) (maps_at s w) (maps_at (other s) w))
-      (with_maps s (merge_after (outcome w s rename room) (maps_at s w) (maps_at (other s) w)) w)
+  -- The state after a call.
+  abbrev pub step : State → Call → State
+  step q (call.Name text) = with_texts (name_after limits q.texts text.now) q
+  step q (call.AddTemplate s t) = with_maps s (add_template_after (length q.texts) cs (maps_at s q) t) q
+  step q (call.AddStatic s p) = with_maps s (add_static_after (length q.texts) cs (maps_at s q) p.body) q
+  step q (call.Add s p) = with_maps s (add_after (length q.texts) cs (same_clause equal cs) (maps_at s q) p) q
+  step q (call.Link s t new values) = with_maps s (link_after (length q.texts) (maps_at s q) t new values) q
+  step q (call.Unlink s id) = with_maps s (unlink_after (length q.texts) (maps_at s q) id) q
+  step q (call.RemoveStatic s id) = with_maps s (remove_static_after (length q.texts) (maps_at s q) id) q
+  step q (call.RemoveTemplate s id) = with_maps s (remove_template_after (length q.texts) (maps_at s q) id) q
+  step q (call.Merge s rename room) =
+      with_texts (merge_texts (outcome q s rename room) q.texts (same_clause equal cs) (maps_at s q) (maps_at (other s) q))
+      (with_maps s (merge_after (outcome q s rename room) (maps_at s q) (maps_at (other s) q)) q)
 
-  -- The world after a list of calls.
-  abbrev pub after : World → List Call → World
-  after w [] = w
-  after w (c ∷ calls) = after (step w c) calls
+  -- The state after a list of calls.
+  abbrev pub after : State → List Call → State
+  after q [] = q
+  after q (c ∷ calls) = after (step q c) calls
 
   -- The answers of a list of calls.
-  abbrev pub answers : World → List Call → List (Result Told Refusal)
-  answers w [] = []
-  answers w (c ∷ calls) = answered w c ∷ answers (step w c) calls
+  abbrev pub answers : State → List Call → List (Result Told Refusal)
+  answers q [] = []
+  answers q (c ∷ calls) = answered q c ∷ answers (step q c) calls

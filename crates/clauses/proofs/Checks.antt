@@ -9,12 +9,12 @@ use Rattle.refusals.specs.declared.refusal.Refusal.{Refusal}
 use Rattle.names.specs.declared.type_name.Scan.TheVariants.{Start}
 use Rattle.names.specs.Scan.{scanned, accepts}
 use Rattle.names.specs.TypeName.{TypeName}
-use Rattle.names.specs.Names.{Told}
+use Rattle.names.specs.Names.{AnswersWhether}
 use Rattle.names.proofs.TypeNames.{scan_decides}
 use Rattle.clauses.specs.Checks.{and_then, in_turn}
 
 -- The answer on a type's name; a number without a text has no type name.
-pub type_told : (texts : List (List ℕ)) (n : ℕ) (answer : Result Bool Refusal) → Told texts n TypeName answer
+pub type_told : (texts : List (List ℕ)) (n : ℕ) (answer : Result Bool Refusal) → AnswersWhether texts n TypeName answer
     → result_unwrap_or answer false ≡ accepts (scanned Start (get_or texts n []))
 type_told texts n answer told =
     elim (cases_lt n (length texts)) [

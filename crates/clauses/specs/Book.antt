@@ -34,7 +34,7 @@ abbrev pub same_clause : {C : Type 0} → (C → C → Bool) → List (Clause C)
 same_clause equal cs a b = same_content equal (at cs a) (at cs b)
 
 -- A test on contents that says yes exactly of equal ones.
-pub record Decides {C : Type 0} (equal : C → C → Bool) : Type 0 where
+pub record DecidesEquality {C : Type 0} (equal : C → C → Bool) : Type 0 where
   pub only : (x y : C) → equal x y ≡ true → x ≡ y
   pub whenever : (x y : C) → x ≡ y → equal x y ≡ true
 

@@ -12,7 +12,7 @@ use Rattle.clauses.specs.declared.tree.node.Node.{Node}
 use Rattle.clauses.specs.declared.tree.node.Node.TheVariants as node
 use Rattle.clauses.specs.declared.tree.node.Var.{Var}
 use Rattle.clauses.specs.declared.tree.node.Var.TheVariants as var
-use Rattle.clauses.specs.Book.{Decides}
+use Rattle.clauses.specs.Book.{DecidesEquality}
 use Rattle.std.specs.Cmp.Lexicographic.{pointwise}
 use Rattle.clauses.specs.contracts.tree.node.NodePartialEq.TheImpl as derived
 use Rattle.clauses.specs.Nodes.{var_equal, node_equal, same_node, same_nodes}
@@ -64,7 +64,7 @@ node_itself node.In = refl
 node_itself (node.Is t) = eq-eqb t t refl
 
 -- On nodes `==` says yes exactly of equal ones.
-pub node_decides : Decides same_node
+pub node_decides : DecidesEquality same_node
 node_decides = record { only = node_only; whenever = λ x y e. subst (λ (z : Node). same_node x z ≡ true) e (node_itself x) }
 
 -- The derived `==` answers as `node_equal` does: on variables,

@@ -6,12 +6,12 @@ use Rattle.std.specs.Str.{bytes_eq}
 use Rattle.std.proofs.lemmas.Slice.Eq.{bytes_eq-Decides}
 use Rattle.refusals.specs.declared.slots.SlotId.TheVariants.{Principal, Resource}
 use Rattle.clauses.specs.declared.sealed.scanner.Scanner.TheVariants.{Plain}
-use Rattle.clauses.specs.Book.{Decides}
+use Rattle.clauses.specs.Book.{DecidesEquality}
 use Rattle.clauses.specs.Sealed.{scanned, text_slots, text_constant}
 use Rattle.clauses.specs.SlotSets.{set_small}
 
 -- Comparing byte by byte says yes exactly of equal texts.
-pub texts_decide : Decides bytes_eq
+pub texts_decide : DecidesEquality bytes_eq
 texts_decide = record { only = λ s t. (bytes_eq-Decides s t).0; whenever = λ s t. (bytes_eq-Decides s t).1 }
 
 -- What holds of `true` and of `false` holds of a text that is a constant.

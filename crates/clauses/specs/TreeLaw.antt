@@ -6,18 +6,18 @@ use Rattle.std.proofs.lemmas.Slice.Eq.{slice_eq-Decides}
 use Rattle.refusals.specs.declared.slots.SlotId.TheVariants.{Principal, Resource}
 use Rattle.clauses.specs.declared.tree.node.Node.{Node}
 use Rattle.clauses.specs.declared.tree.node.Node.TheVariants as node
-use Rattle.std.specs.Bool.{Decides as Decided}
-use Rattle.clauses.specs.Book.{Decides}
+use Rattle.std.specs.Bool.{Decides}
+use Rattle.clauses.specs.Book.{DecidesEquality}
 use Rattle.clauses.specs.Nodes.{same_nodes, node_constant, mentions, tree_slots, tree_constant}
 use Rattle.clauses.specs.NodeEquals.{node_decides}
 use Rattle.clauses.specs.SlotSets.{set_small}
 
 -- Comparing node by node decides whether two lists are equal.
-same_trees : (s t : List Node) → Decided (same_nodes s t) (s ≡ t)
+same_trees : (s t : List Node) → Decides (same_nodes s t) (s ≡ t)
 same_trees s t = slice_eq-Decides (λ m n. (node_decides.only m n, node_decides.whenever m n)) s t (same_nodes s t) refl
 
 -- The same, as the law of clause books puts it.
-pub trees_decide : Decides same_nodes
+pub trees_decide : DecidesEquality same_nodes
 trees_decide = record { only = λ s t. (same_trees s t).0; whenever = λ s t. (same_trees s t).1 }
 
 -- A lone literal has no slot.

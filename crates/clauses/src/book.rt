@@ -1,5 +1,5 @@
 ghost use Rattle.std.specs.Prelude.{◌≡◌, ℕ, Bool, List, length};
-ghost use Rattle.clauses.specs.Book.{Clause, Decides, Lawful, at, slots_of, constant_of, same_clause};
+ghost use Rattle.clauses.specs.Book.{Clause, DecidesEquality, Lawful, at, slots_of, constant_of, same_clause};
 
 use refusals::slots::SlotSet;
 
@@ -31,7 +31,7 @@ pub trait ClauseBook {
         ensures { result ≡ same_clause equal (listed self.now) a b };
 
     // A law: the test says yes exactly of equal contents.
-    ghost decides: { Decides equal };
+    ghost decides: { DecidesEquality equal };
 
     // The law of every book: equal contents have equal slots and constants, and a constant has no slot.
     ghost lawful: { (b : Self) → Lawful (listed b) };

@@ -1,6 +1,6 @@
 ghost use Rattle.std.specs.Prelude.{◌≡◌, ℕ, ◌<◌, Bool, List, Some};
 ghost use Rattle.std.specs.Cmp.Lexicographic.{pointwise};
-ghost use Rattle.clauses.specs.Book.{Clause, Decides};
+ghost use Rattle.clauses.specs.Book.{Clause, DecidesEquality};
 
 use refusals::slots::SlotSet;
 
@@ -24,7 +24,7 @@ pub trait Content: Copy + PartialEq {
     ghost compared: { (s t : List Self) → pointwise Self.eq s t ≡ equal s t };
 
     // The test says yes exactly of equal contents.
-    ghost decides: { Decides equal };
+    ghost decides: { DecidesEquality equal };
 
     // A clause has the content that it is made from.
     ghost keeps: { (t : List Self) → (clause t).content ≡ t };

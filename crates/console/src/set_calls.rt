@@ -1,7 +1,7 @@
 ghost use Rattle.std.specs.Prelude.{◌≡◌};
 ghost use Rattle.names.specs.Book.{limits as limits_of};
 ghost use Rattle.calls.specs.Model.{told, answered, step};
-ghost use Rattle.calls.specs.Meaning.{world_of};
+ghost use Rattle.calls.specs.Meaning.{state_of};
 
 // Lines on sets: those that change a set are read into calls, which are made and answered.
 use crate::args::Args;
@@ -69,8 +69,8 @@ impl SetWord {
 
 // Makes one call, as a list of one.
 fn made<B: ClauseBook>(sets: &mut Sets, names: &mut NameBook, clauses: &B, call: Call<'_>) -> Answer
-    ensures answer { told result ≡ answered (limits_of names.old) B.ClauseBook.equal (B.ClauseBook.listed clauses.now) (world_of sets.old names.old) call.entry }
-    ensures after { world_of sets.new names.new ≡ step (limits_of names.old) B.ClauseBook.equal (B.ClauseBook.listed clauses.now) (world_of sets.old names.old) call.entry }
+    ensures answer { told result ≡ answered (limits_of names.old) B.ClauseBook.equal (B.ClauseBook.listed clauses.now) (state_of sets.old names.old) call.entry }
+    ensures after { state_of sets.new names.new ≡ step (limits_of names.old) B.ClauseBook.equal (B.ClauseBook.listed clauses.now) (state_of sets.old names.old) call.entry }
 {
     let mut answers = [Ok(Handed::Nothing)];
     sets.run(names, clauses, &[call], &mut answers)?;

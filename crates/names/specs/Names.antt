@@ -65,7 +65,7 @@ abbrev pub text_answer : List (List ℕ) → ℕ → Result (List ℕ) Refusal
 text_answer texts n = cond (nat_lt n (length texts)) (Ok (slice_index_or texts n [])) (Err (UnknownName n))
 
 -- A question about the text of a number: the answer is yes exactly where P holds of the text; refusal 1 as in reading.
-pub record Told (texts : List (List ℕ)) (n : ℕ) (P : List ℕ → Type 0) (answer : Result Bool Refusal) : Type 0 where
+pub record AnswersWhether (texts : List (List ℕ)) (n : ℕ) (P : List ℕ → Type 0) (answer : Result Bool Refusal) : Type 0 where
   pub known : n < length texts → (yes : Bool) × (answer ≡ Ok yes) × Decides yes (P (slice_index_or texts n []))
   pub unknown : length texts ≤ n → answer ≡ Err (UnknownName n)
 

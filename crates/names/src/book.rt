@@ -1,6 +1,6 @@
 ghost use Rattle.std.specs.Prelude.{◌≡◌, min, true, [], ◌∷◌, ◌++◌, length, IfOk, None as Absent};
 ghost use Rattle.names.specs.Book.{texts as texts_of, limits as limits_of};
-ghost use Rattle.names.specs.Names.{number_of, name_answer, name_after, text_answer, room_for, OneToOne, Naming, Told};
+ghost use Rattle.names.specs.Names.{number_of, name_answer, name_after, text_answer, room_for, OneToOne, Naming, AnswersWhether};
 ghost use Rattle.names.specs.Lent.{lent};
 ghost use Rattle.names.specs.TypeName.{TypeName, IsAction};
 
@@ -107,7 +107,7 @@ impl NameBook {
 
     // Whether the text of a number is a type name.
     pub fn is_type_name(&self, number: NameNumber) -> Result<bool, Refusal>
-        ensures { Told (texts_of self.now) number TypeName result }
+        ensures { AnswersWhether (texts_of self.now) number TypeName result }
     {
         let text = self.text(number)?;
         Ok(is_type_name(text))
@@ -115,7 +115,7 @@ impl NameBook {
 
     // Whether the text of a number names a type of actions: its last part is `Action`.
     pub fn is_action(&self, number: NameNumber) -> Result<bool, Refusal>
-        ensures { Told (texts_of self.now) number IsAction result }
+        ensures { AnswersWhether (texts_of self.now) number IsAction result }
     {
         let text = self.text(number)?;
         Ok(is_action_type(text))

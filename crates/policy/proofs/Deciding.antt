@@ -22,10 +22,10 @@ use Rattle.refusals.proofs.Sets.{slot_sets}
 use Rattle.policy.proofs.Records.{action_lists}
 
 -- A test that says yes of equal things alone, and of each thing and itself.
-tests : {X : Type 0} (same : X → X → Bool) → ((x y : X) → same x y ≡ true → x ≡ y) → ((x : X) → same x x ≡ true) → book.Decides same
+tests : {X : Type 0} (same : X → X → Bool) → ((x y : X) → same x y ≡ true → x ≡ y) → ((x : X) → same x x ≡ true) → book.DecidesEquality same
 tests {X} same only itself = record { only = only; whenever = λ x y e. subst (λ (z : X). same x z ≡ true) e (itself x) }
 
-pub numbers : book.Decides eqb
+pub numbers : book.DecidesEquality eqb
 numbers = record { only = eqb-true; whenever = eq-eqb }
 
 effect_only : (a b : Effect) → effect_equal a b ≡ true → a ≡ b
@@ -38,10 +38,10 @@ effect_itself : (a : Effect) → effect_equal a a ≡ true
 effect_itself Permit = refl
 effect_itself Forbid = refl
 
-pub effects : book.Decides effect_equal
+pub effects : book.DecidesEquality effect_equal
 effects = tests effect_equal effect_only effect_itself
 
-pub entities : book.Decides entity_equal
+pub entities : book.DecidesEquality entity_equal
 entities = tests entity_equal entity_only entity_itself
 
 reference_only : (a b : EntityReference) → reference_equal a b ≡ true → a ≡ b
@@ -54,10 +54,10 @@ reference_itself : (a : EntityReference) → reference_equal a a ≡ true
 reference_itself (EUID a) = entities.whenever a a refl
 reference_itself Slot = refl
 
-references : book.Decides reference_equal
+references : book.DecidesEquality reference_equal
 references = tests reference_equal reference_only reference_itself
 
-module _ {X : Type 0} (same : X → X → Bool) (t : book.Decides same) where
+module _ {X : Type 0} (same : X → X → Bool) (t : book.DecidesEquality same) where
   option_only : (a b : Option X) → option_equal same a b ≡ true → a ≡ b
   option_only None None h = refl
   option_only None (Some b) h = elim (false≢true h) [ ]
@@ -68,13 +68,13 @@ module _ {X : Type 0} (same : X → X → Bool) (t : book.Decides same) where
   option_itself None = refl
   option_itself (Some a) = t.whenever a a refl
 
-  pub options : book.Decides (option_equal same)
+  pub options : book.DecidesEquality (option_equal same)
   options = tests (option_equal same) option_only option_itself
 
   decided : (x y : X) → Decides (same x y) (x ≡ y)
   decided x y = (t.only x y, t.whenever x y)
 
-  pub lists : book.Decides (pointwise same)
+  pub lists : book.DecidesEquality (pointwise same)
   lists = record { only = λ xs ys. (pointwise_decides decided xs ys).0; whenever = λ xs ys. (pointwise_decides decided xs ys).1 }
 
 -- The scope that is made of such parts.
@@ -113,7 +113,7 @@ scope_itself a =
     (and_from (option_equal eqb (type_of a) (type_of a)) (option_equal reference_equal (reference_of a) (reference_of a))
     (option_itself eqb numbers (type_of a)) (option_itself reference_equal references (reference_of a)))
 
-pub scopes : book.Decides scope_equal
+pub scopes : book.DecidesEquality scope_equal
 scopes = tests scope_equal scope_only scope_itself
 
 action_only : (a b : ActionConstraint) → action_equal a b ≡ true → a ≡ b
@@ -132,7 +132,7 @@ action_itself action.Any = refl
 action_itself (action.In l) = (lists entity_equal entities).whenever (listed l) (listed l) refl
 action_itself (action.Eq e) = entities.whenever e e refl
 
-pub actions : book.Decides action_equal
+pub actions : book.DecidesEquality action_equal
 actions = tests action_equal action_only action_itself
 
 values_only : (a b : SlotEnv) → values_equal a b ≡ true → a ≡ b
@@ -142,13 +142,13 @@ values_only a b h =
     let y = option_only entity_equal entities a.resource b.resource p.1 in
     λ i. record { principal = x i; resource = y i }
 
-pub environments : book.Decides values_equal
+pub environments : book.DecidesEquality values_equal
 environments =
     tests values_equal values_only
     (λ a. and_from (option_equal entity_equal a.principal a.principal) (option_equal entity_equal a.resource a.resource)
     (option_itself entity_equal entities a.principal) (option_itself entity_equal entities a.resource))
 
-module _ {C : Type 0} (equal : C → C → Bool) (cs : List (Clause C)) (d : book.Decides equal) where
+module _ {C : Type 0} (equal : C → C → Bool) (cs : List (Clause C)) (d : book.DecidesEquality equal) where
   same_only : (m n : ℕ) (a b : Option (Clause C)) → at cs m ≡ a → at cs n ≡ b → same_content equal a b ≡ true → Same cs m n
   same_only m n None b p q h = elim (false≢true h) [ ]
   same_only m n (Some a) None p q h = elim (false≢true h) [ ]

@@ -1,7 +1,7 @@
 -- A merge keeps sets and their tallies together.
 use Rattle.std.proofs.Common.{◌≡◌, ℕ, Bool, true, false, cond, List, Some, None, Option, sym, refl, ap, ◌∙◌, subst, inl, inr, arith}
 use Rattle.std.proofs.lemmas.Bool.{lt-ltb, le-ltb}
-use Rattle.clauses.specs.Book.{Clause, Decides, at, same_content, same_clause}
+use Rattle.clauses.specs.Book.{Clause, DecidesEquality, at, same_content, same_clause}
 use Rattle.policy.specs.declared.template.Template.{Template}
 use Rattle.policy.specs.Equality.{option_equal}
 use Rattle.policy.specs.Arity.{Parts}
@@ -249,7 +249,7 @@ module _ (same : ℕ → ℕ → Bool) (Fit : Template → Type 0) (live incomin
           go (Some i) e = one i (held (ti i)) (mv.there k i e) refl
 
 -- comparing clauses of a book by their contents is symmetric and transitive
-pub clauses_comparing : {C : Type 0} (equal : C → C → Bool) (cs : List (Clause C)) → Decides equal → Comparing (same_clause equal cs)
+pub clauses_comparing : {C : Type 0} (equal : C → C → Bool) (cs : List (Clause C)) → DecidesEquality equal → Comparing (same_clause equal cs)
 clauses_comparing {C} equal cs d = record {
   symmetric = λ m n. both (at cs m) (at cs n);
   transitive = λ l m n. all (at cs l) (at cs m) (at cs n);

@@ -11,7 +11,7 @@ use Rattle.refusals.specs.declared.refusal.TemplateValidationError.TheVariants.{
 use Rattle.refusals.specs.declared.refusal.InvalidTemplate.{InvalidTemplate as Invalid}
 use Rattle.refusals.specs.declared.refusal.Refusal.{Refusal}
 use Rattle.refusals.specs.declared.refusal.Refusal.TheVariants.{InvalidTemplate}
-use Rattle.names.specs.Names.{Told}
+use Rattle.names.specs.Names.{AnswersWhether}
 use Rattle.names.specs.TypeName.{IsAction, is_action}
 use Rattle.names.specs.declared.entity.EntityUID.{EntityUID}
 use Rattle.names.proofs.Actions.{action_decides}
@@ -25,7 +25,7 @@ use Rattle.policy.specs.declared.template.Template.{Template}
 use Rattle.policy_set.specs.Validation.{action_typed, mask_from, clause_slots, mask_fault, slot_fault, template_fault, check_answer, fault_or, try_validate_answer, AllActions, AllValid, AcceptsValid}
 
 -- What the name book tells of an entity's type, where it tells it.
-pub told_action : (texts : List (List ℕ)) (e : EntityUID) (answer : Result Bool Refusal) → Told texts e.ty IsAction answer
+pub told_action : (texts : List (List ℕ)) (e : EntityUID) (answer : Result Bool Refusal) → AnswersWhether texts e.ty IsAction answer
     → result_unwrap_or answer false ≡ action_typed texts e
 told_action texts e answer t = by (ltb e.ty (length texts)) refl where
   by : (b : Bool) → ltb e.ty (length texts) ≡ b → result_unwrap_or answer false ≡ cond b (is_action (get_or texts e.ty [])) false

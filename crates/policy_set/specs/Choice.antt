@@ -56,9 +56,9 @@ choose texts taken limit fresh c (i ∷ is) =
     ]
 
 -- The pairs, where every id got a new one.
-abbrev pub told : Option Plan → Option (List Renaming)
-told (Some p) = Some p.pairs.items
-told None = None
+abbrev pub pairs_of : Option Plan → Option (List Renaming)
+pairs_of (Some p) = Some p.pairs.items
+pairs_of None = None
 
 -- The counter of a try whose text is new.
 abbrev pub new_text : ℕ → Try → List ℕ

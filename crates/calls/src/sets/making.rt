@@ -3,7 +3,7 @@ ghost use Rattle.std.specs.Prelude.{◌≡◌, ℕ, List};
 ghost use Rattle.names.specs.Book.{limits as limits_of};
 ghost use Rattle.calls.specs.Model.{told, empty_sets, answered, step};
 ghost use Rattle.calls.specs.Law.{OneCall, BothShow, blank};
-ghost use Rattle.calls.specs.Meaning.{world_of};
+ghost use Rattle.calls.specs.Meaning.{state_of};
 
 use crate::answer::{Answer, Handed};
 use crate::call::Call;
@@ -14,8 +14,8 @@ use names::kept::NameBook;
 impl Sets {
     // Makes one call, without its law.
     fn made<B: ClauseBook>(&mut self, names: &mut NameBook, clauses: &B, call: Call<'_>) -> Answer
-        ensures answer { told result ≡ answered (limits_of names.old) B.ClauseBook.equal (B.ClauseBook.listed clauses.now) (world_of self.old names.old) call.entry }
-        ensures after { world_of self.new names.new ≡ step (limits_of names.old) B.ClauseBook.equal (B.ClauseBook.listed clauses.now) (world_of self.old names.old) call.entry }
+        ensures answer { told result ≡ answered (limits_of names.old) B.ClauseBook.equal (B.ClauseBook.listed clauses.now) (state_of self.old names.old) call.entry }
+        ensures after { state_of self.new names.new ≡ step (limits_of names.old) B.ClauseBook.equal (B.ClauseBook.listed clauses.now) (state_of self.old names.old) call.entry }
         ensures limits { limits_of names.new ≡ limits_of names.old }
     {
         match call {
@@ -40,10 +40,10 @@ impl Sets {
         clauses: &B,
         call: Call<'_>,
     ) -> Answer
-        ensures answer { told result ≡ answered (limits_of names.old) B.ClauseBook.equal (B.ClauseBook.listed clauses.now) (world_of self.old names.old) call.entry }
-        ensures after { world_of self.new names.new ≡ step (limits_of names.old) B.ClauseBook.equal (B.ClauseBook.listed clauses.now) (world_of self.old names.old) call.entry }
+        ensures answer { told result ≡ answered (limits_of names.old) B.ClauseBook.equal (B.ClauseBook.listed clauses.now) (state_of self.old names.old) call.entry }
+        ensures after { state_of self.new names.new ≡ step (limits_of names.old) B.ClauseBook.equal (B.ClauseBook.listed clauses.now) (state_of self.old names.old) call.entry }
         ensures limits { limits_of names.new ≡ limits_of names.old }
-        ensures law { OneCall B.ClauseBook.equal (B.ClauseBook.listed clauses.now) (world_of self.old names.old) (world_of self.new names.new) call.entry (told result) }
+        ensures law { OneCall B.ClauseBook.equal (B.ClauseBook.listed clauses.now) (state_of self.old names.old) (state_of self.new names.new) call.entry (told result) }
         ensures first { (texts : List (List ℕ)) → BothShow B.ClauseBook.equal (B.ClauseBook.listed clauses.now) blank (empty_sets texts) }
     {
         self.made(names, clauses, call)

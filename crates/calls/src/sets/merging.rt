@@ -6,7 +6,7 @@ ghost use Rattle.policy_set.specs.MergeCall.{merge_outcome, merge_after, merge_t
 ghost use Rattle.policy_set.specs.Meaning.{maps_of};
 ghost use Rattle.calls.specs.Model.{tell, told, answered, step};
 ghost use Rattle.calls.specs.Model.Told.{pairs as told_pairs};
-ghost use Rattle.calls.specs.Meaning.{world_of};
+ghost use Rattle.calls.specs.Meaning.{state_of};
 ghost use Rattle.calls.specs.Pairs.{first_pairs};
 
 use crate::answer::{Answer, Handed};
@@ -69,8 +69,8 @@ impl Sets {
         rename: bool,
         room: usize,
     ) -> Answer
-        ensures answer { told result ≡ answered (limits_of names.old) B.ClauseBook.equal (B.ClauseBook.listed clauses.now) (world_of self.old names.old) (Call.Merge into rename room) }
-        ensures after { world_of self.new names.new ≡ step (limits_of names.old) B.ClauseBook.equal (B.ClauseBook.listed clauses.now) (world_of self.old names.old) (Call.Merge into rename room) }
+        ensures answer { told result ≡ answered (limits_of names.old) B.ClauseBook.equal (B.ClauseBook.listed clauses.now) (state_of self.old names.old) (Call.Merge into rename room) }
+        ensures after { state_of self.new names.new ≡ step (limits_of names.old) B.ClauseBook.equal (B.ClauseBook.listed clauses.now) (state_of self.old names.old) (Call.Merge into rename room) }
         ensures limits { limits_of names.new ≡ limits_of names.old }
     {
         match into {

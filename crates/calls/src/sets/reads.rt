@@ -4,7 +4,7 @@ ghost use Rattle.names.specs.Book.{texts as texts_of};
 ghost use Rattle.names.specs.declared.kept.NameBook.{NameBook};
 ghost use Rattle.policy_set.specs.Meaning.{maps_of};
 ghost use Rattle.calls.specs.Model.{empty_sets};
-ghost use Rattle.calls.specs.Meaning.{world_of, set_at};
+ghost use Rattle.calls.specs.Meaning.{state_of, set_at};
 
 use crate::call::Side;
 use crate::sets::Sets;
@@ -13,7 +13,7 @@ use policy_set::set::PolicySet;
 impl Sets {
     // Two empty sets.
     pub fn new() -> Sets
-        ensures { (names : NameBook) → world_of result names ≡ empty_sets (texts_of names) }
+        ensures { (names : NameBook) → state_of result names ≡ empty_sets (texts_of names) }
     {
         Sets {
             a: PolicySet::new(),

@@ -3,7 +3,7 @@ ghost use Rattle.std.specs.Prelude.{◌≡◌, ℕ, List, length, take, drop, ma
 ghost use Rattle.names.specs.Book.{texts as texts_of, limits as limits_of};
 ghost use Rattle.calls.specs.Model.{told, run_answer, given, empty_sets};
 ghost use Rattle.calls.specs.Law.{Ran, BothShow, blank};
-ghost use Rattle.calls.specs.Meaning.{world_of};
+ghost use Rattle.calls.specs.Meaning.{state_of};
 
 use crate::answer::Answer;
 use crate::call::Call;
@@ -23,7 +23,7 @@ impl Sets {
         answers: &mut [Answer],
     ) -> Result<(), Refusal>
         ensures answer { result ≡ run_answer (length calls.now) (length answers.entry.now) }
-        ensures ran { Ran B.ClauseBook.equal (B.ClauseBook.listed clauses.now) (limits_of names.old) (world_of self.old names.old) (world_of self.new names.new) (take (given result (length calls.now)) calls.now) (map told (take (given result (length calls.now)) answers.exit.now)) }
+        ensures ran { Ran B.ClauseBook.equal (B.ClauseBook.listed clauses.now) (limits_of names.old) (state_of self.old names.old) (state_of self.new names.new) (take (given result (length calls.now)) calls.now) (map told (take (given result (length calls.now)) answers.exit.now)) }
         ensures rest { drop (given result (length calls.now)) answers.exit.now ≡ drop (given result (length calls.now)) answers.entry.now }
         ensures limits { limits_of names.new ≡ limits_of names.old }
         ensures first { (texts : List (List ℕ)) → BothShow B.ClauseBook.equal (B.ClauseBook.listed clauses.now) blank (empty_sets texts) }

@@ -3,7 +3,7 @@ ghost use Rattle.std.specs.Prelude.{◌≡◌, ◌-◌, ◌<◌, ◌≤◌, leng
 ghost use Rattle.arrayvec.specs.ArrayVec.{array_vec_len};
 ghost use Rattle.names.specs.Book.{texts as texts_of};
 ghost use Rattle.names.specs.Names.{number_of};
-ghost use Rattle.policy_set.specs.Choice.{candidate, attempt as tried, first_free, choose, new_texts, taken_by, Next, told};
+ghost use Rattle.policy_set.specs.Choice.{candidate, attempt as tried, first_free, choose, new_texts, taken_by, Next, pairs_of};
 ghost use Rattle.policy_set.specs.Meaning.{maps_of};
 
 use crate::merge::attempt::Try;
@@ -58,7 +58,7 @@ impl<'a> Both<'a> {
     // A new id for each id, and the counters of the texts that are new; none where an id gets no new one.
     pub(crate) fn choose_names(&self, names: &NameBook, ids: &[NameNumber]) -> Option<Plan>
         requires { length ids.now ≤ 640 }
-        ensures value { told result ≡ choose (texts_of names.now) (taken_by (maps_of self.now.live.now) (maps_of self.now.incoming.now)) 65536 0 0 ids.now }
+        ensures value { pairs_of result ≡ choose (texts_of names.now) (taken_by (maps_of self.now.live.now) (maps_of self.now.incoming.now)) 65536 0 0 ids.now }
         ensures texts { IfSome result (λ p. p.news.items ≡ new_texts (texts_of names.now) (taken_by (maps_of self.now.live.now) (maps_of self.now.incoming.now)) 65536 0 0 ids.now) }
         ensures few { IfSome result (λ p. array_vec_len p.news ≤ 640) }
     {

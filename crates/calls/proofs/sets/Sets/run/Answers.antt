@@ -4,7 +4,7 @@ use Rattle.names.specs.Book.{limits}
 use Rattle.calls.specs.declared.call.Call.{Call}
 use Rattle.calls.specs.Model.{told}
 use Rattle.calls.specs.Law.{Ran}
-use Rattle.calls.specs.Meaning.{world_of}
+use Rattle.calls.specs.Meaning.{state_of}
 use Rattle.calls.proofs.Runs.{ran_more, places_more}
 use Rattle.calls.proofs.sets.Sets.run.Goals as goal
 
@@ -13,9 +13,9 @@ loop-i-preserved g c =
     let equal = g.B.ClauseBook.equal in
     let cs = g.B.ClauseBook.listed c.args.clauses.now in
     let ls = limits c.args.names.now in
-    let begin = world_of c.args.self.now c.args.names.now in
-    let before = world_of c.loop-i.self c.loop-i.names in
-    let after = world_of c.make.new.self c.make.new.names in
+    let begin = state_of c.args.self.now c.args.names.now in
+    let before = state_of c.loop-i.self c.loop-i.names in
+    let after = state_of c.make.new.self c.make.new.names in
     let call = c.index-calls-i.result in
     let p = places_more told c.loop-i.answers c.args.answers.now c.loop-i.i c.make.result (omega (arith, c.loop-i-test.true, c.if-answers-calls.false, c.loop-i.auto.answers)) c.loop-i.invariant.2 in
     let q : take (c.loop-i.i + 1) c.args.calls.now ≡ take c.loop-i.i c.args.calls.now ++ call ∷ [] =
@@ -29,5 +29,5 @@ loop-i-preserved g c =
 pub returns-clause-ran : goal.returns-clause-ran
 returns-clause-ran g c =
     let z : c.loop-i.i ≡ length c.args.calls.now = omega (arith, c.loop-i-test.false, c.loop-i.auto.i-end) in
-    subst (λ n. Ran g.B.ClauseBook.equal (g.B.ClauseBook.listed c.args.clauses.now) (limits c.args.names.now) (world_of c.args.self.now c.args.names.now)
-    (world_of c.loop-i.self c.loop-i.names) (take n c.args.calls.now) (map told (take n c.loop-i.answers))) z c.loop-i.invariant.1
+    subst (λ n. Ran g.B.ClauseBook.equal (g.B.ClauseBook.listed c.args.clauses.now) (limits c.args.names.now) (state_of c.args.self.now c.args.names.now)
+    (state_of c.loop-i.self c.loop-i.names) (take n c.args.calls.now) (map told (take n c.loop-i.answers))) z c.loop-i.invariant.1
