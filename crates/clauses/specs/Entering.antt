@@ -1,5 +1,5 @@
 -- What entering does to the list of contents that a book holds.
-use Rattle.std.specs.Prelude.{ℕ, cond, List, [], ◌∷◌, ◌++◌, length, Ok, Err, Result, nat_lt}
+use Rattle.std.specs.Prelude.{ℕ, cond, List, length, Ok, Err, Result, nat_lt}
 use Rattle.refusals.specs.declared.refusal.Refusal.{Refusal}
 use Rattle.refusals.specs.declared.refusal.Refusal.TheVariants.{BookFull}
 use Rattle.clauses.specs.Checks.{and_then, length_check}
@@ -7,11 +7,6 @@ use Rattle.clauses.specs.Checks.{and_then, length_check}
 -- The next number, or refusal 4 where all 256 are taken.
 abbrev pub next_number : {C : Type 0} → List C → Result ℕ Refusal
 next_number held = cond (nat_lt (length held) 256) (Ok (length held)) (Err BookFull)
-
--- What a book holds after an answer: the new one last where it got a number, else what it held.
-abbrev pub with_entered : {C : Type 0} → Result ℕ Refusal → List C → C → List C
-with_entered (Ok n) held new = held ++ (new ∷ [])
-with_entered (Err refusal) held new = held
 
 -- What entering a sealed text answers: refusal 3 above 512 bytes, else the next number.
 abbrev pub text_answer : List (List ℕ) → List ℕ → Result ℕ Refusal

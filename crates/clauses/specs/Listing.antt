@@ -5,7 +5,7 @@ use Rattle.std.proofs.Common.{sym, ◌∙◌, ap, arith}
 use Rattle.std.specs.List.{slice_get}
 use Rattle.std.specs.Option.{option_map}
 use Rattle.refusals.specs.declared.refusal.Refusal.{Refusal}
-use Rattle.clauses.specs.Entering.{with_entered}
+use Rattle.names.specs.Names.{with_entered}
 use Rattle.clauses.specs.Book.{Clause, Lawful, Same, at, slots_of, constant_of, listing}
 
 module _ {C : Type 0} (make : C → Clause C) where

@@ -33,13 +33,18 @@ bytes_in (t ∷ ts) = length t + bytes_in ts
 abbrev pub room_for : {X : Type 0} → Limits → List (List X) → ℕ → ℕ → Bool
 room_for limits texts count bytes = nat_le (length texts + count) limits.places && nat_le (bytes_in texts + bytes) limits.room
 
--- Whether one text more keeps within the limits.
-abbrev pub fits : Limits → List (List ℕ) → List ℕ → Bool
+-- Whether one list more keeps within the limits.
+abbrev pub fits : {X : Type 0} → Limits → List (List X) → List X → Bool
 fits limits texts text = room_for limits texts 1 (length text)
 
--- A text that is not there gets the next number, or refusal 4.
-abbrev pub enter_answer : Limits → List (List ℕ) → List ℕ → Result ℕ Refusal
+-- A list more gets the next number, or refusal 4.
+abbrev pub enter_answer : {X : Type 0} → Limits → List (List X) → List X → Result ℕ Refusal
 enter_answer limits texts text = cond (fits limits texts text) (Ok (length texts)) (Err BookFull)
+
+-- What is held after an answer to entering: the new list last where it got a number.
+abbrev pub with_entered : {X : Type 0} → Result ℕ Refusal → List X → X → List X
+with_entered (Ok n) held new = held ++ (new ∷ [])
+with_entered (Err refusal) held new = held
 
 -- A number that was found, else what entering answers.
 abbrev pub found_or : Option ℕ → Result ℕ Refusal → Result ℕ Refusal

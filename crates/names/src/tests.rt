@@ -56,7 +56,8 @@ fn types_and_actions(rt: HostRuntime) -> Result<(), Fail> {
 #[test]
 fn pieces_end_to_end(rt: HostRuntime) -> Result<(), Fail> {
     let mut pieces = Pieces::new(rt.alloc(), 2, 3)?;
-    pieces.push(b"ab");
+    assert_eq!(rt; pieces.enter(b"ab"), Ok(0));
+    assert_eq!(rt; pieces.enter(b"cd"), Err(Refusal::BookFull));
     assert_eq!(rt; pieces.count(), 1);
     assert_eq!(rt; pieces.get(0), Some(b"ab".as_slice()));
     assert_eq!(rt; pieces.get(1), None);

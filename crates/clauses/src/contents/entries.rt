@@ -2,7 +2,8 @@ ghost use Rattle.std.specs.Prelude.{◌≡◌, ◌≤◌, List, [], length, IfOk
 ghost use Rattle.std.specs.Option.{option_map};
 ghost use Rattle.clauses.specs.Book.{at, listing};
 ghost use Rattle.clauses.specs.Contents.{held};
-ghost use Rattle.clauses.specs.Entering.{next_number, with_entered};
+ghost use Rattle.clauses.specs.Entering.{next_number};
+ghost use Rattle.names.specs.Names.{with_entered};
 ghost use Rattle.clauses.specs.Listing.{lawful_by};
 
 use crate::book::ClauseBook;
@@ -31,12 +32,8 @@ impl<T: Copy, const LONGEST: u16> ContentBook<T, LONGEST> {
         ensures answer { result ≡ next_number (held self.old) }
         ensures after { held self.new ≡ with_entered result (held self.old) content.now }
     {
-        let count = self.contents.count();
-        if count >= PLACES {
-            return Err(Refusal::BookFull);
-        }
-        self.contents.push(content);
-        Ok(count as u16)
+        let number = self.contents.enter(content)?;
+        Ok(number as u16)
     }
 }
 

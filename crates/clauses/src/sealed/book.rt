@@ -1,6 +1,7 @@
 ghost use Rattle.std.specs.Prelude.{◌≡◌, refl};
 ghost use Rattle.std.specs.Str.{bytes_eq};
-ghost use Rattle.clauses.specs.Entering.{text_answer, with_entered};
+ghost use Rattle.clauses.specs.Entering.{text_answer};
+ghost use Rattle.names.specs.Names.{with_entered};
 ghost use Rattle.clauses.specs.Sealed.{text_clause};
 ghost use Rattle.clauses.specs.SealedBooks.{texts as texts_of, sealed_clauses};
 ghost use Rattle.clauses.specs.SealedLaw.{texts_decide, texts_small, texts_slotless};

@@ -1,6 +1,6 @@
 ghost use Rattle.std.specs.Prelude.{◌≡◌, refl};
 ghost use Rattle.names.specs.Book.{texts as texts_of};
-ghost use Rattle.clauses.specs.Entering.{with_entered};
+ghost use Rattle.names.specs.Names.{with_entered};
 ghost use Rattle.clauses.specs.NodeEquals.{derived_nodes};
 ghost use Rattle.clauses.specs.Nodes.{same_nodes, tree_clause};
 ghost use Rattle.clauses.specs.TreeBooks.{trees as trees_of, tree_clauses};

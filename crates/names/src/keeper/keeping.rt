@@ -3,9 +3,10 @@ ghost use Rattle.std.specs.List.{slice_get};
 ghost use Rattle.std.specs.Option.{option_map};
 ghost use Rattle.names.specs.Pieces.{start_of};
 ghost use Rattle.names.specs.Kept.{kept, limits_of};
-ghost use Rattle.names.specs.Names.{room_for};
+ghost use Rattle.names.specs.Names.{room_for, enter_answer, with_entered};
 
 use crate::keeper::Pieces;
+use refusals::refusal::Refusal;
 use std::alloc::{AllocError, Global};
 
 impl<T: Copy> Pieces<T> {
@@ -40,7 +41,7 @@ impl<T: Copy> Pieces<T> {
     }
 
     // The piece of a number below the count, lent from the items.
-    pub fn piece(&self, n: usize) -> &[T]
+    pub(crate) fn piece(&self, n: usize) -> &[T]
         requires { n < length (kept self.now) }
         ensures { result.now ≡ slice_index_or (kept self.now) n [] }
     {
@@ -68,7 +69,7 @@ impl<T: Copy> Pieces<T> {
     }
 
     // Puts a piece for which there is room behind the last.
-    pub fn push(&mut self, piece: &[T])
+    pub(crate) fn push(&mut self, piece: &[T])
         requires { room_for (limits_of self.old) (kept self.old) 1 (length piece.now) ≡ true }
         ensures kept { kept self.new ≡ kept self.old ++ (piece.now ∷ []) }
         ensures limits { limits_of self.new ≡ limits_of self.old }
@@ -76,5 +77,19 @@ impl<T: Copy> Pieces<T> {
         self.items.extend_from_slice(piece).unwrap();
         let end = self.items.len();
         self.ends.push_reserved(end);
+    }
+
+    // Puts a piece behind the last, under the next number; refusal 4 where there is no room for it.
+    pub fn enter(&mut self, piece: &[T]) -> Result<usize, Refusal>
+        ensures answer { result ≡ enter_answer (limits_of self.old) (kept self.old) piece.now }
+        ensures kept { kept self.new ≡ with_entered result (kept self.old) piece.now }
+        ensures limits { limits_of self.new ≡ limits_of self.old }
+    {
+        if !self.has_room_for(1, piece.len()) {
+            return Err(Refusal::BookFull);
+        }
+        let number = self.count();
+        self.push(piece);
+        Ok(number)
     }
 }

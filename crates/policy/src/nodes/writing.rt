@@ -25,7 +25,7 @@ fn both_constants(left: Option<bool>, right: Option<bool>) -> Option<bool>
 
 // The nodes behind those of the list.
 // Each writer asks for a different amount of room, so no type invariant can state it.
-pub fn extend(list: &mut NodeList, nodes: &[ConditionNode])
+pub(crate) fn extend(list: &mut NodeList, nodes: &[ConditionNode])
     requires { array_vec_len list.old + length nodes.now ≤ 27 }
     ensures { Wrote list.old list.new nodes.now (length nodes.now) }
 {
@@ -43,7 +43,7 @@ fn folded(nodes: &[ConditionNode]) -> Option<bool>
 }
 
 // The last two trees become one under `and`; two constants become one constant.
-pub fn and(list: &mut NodeList)
+pub(crate) fn and(list: &mut NodeList)
     requires { array_vec_len list.old < 27 }
     ensures { Joins list.old list.new }
 {
