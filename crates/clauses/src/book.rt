@@ -14,7 +14,7 @@ pub trait ClauseBook {
     // The list that a book means.
     ghost listed: { Self → List (Clause content) };
 
-    // How many clauses there are: 0 to 65,536.
+    // How many clauses there are. A number has 16 bits, so nobody asks for those behind the first 65,536.
     fn count(&self) -> u32
         ensures { result ≡ length (listed self.now) };
 

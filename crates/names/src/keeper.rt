@@ -2,7 +2,7 @@ ghost use Rattle.std.specs.Prelude.{◌≡◌, ◌≤◌, true, length, vec_len,
 ghost use Rattle.names.specs.Pieces.{rising as rises};
 
 // Lists kept end to end, with where each ends: so many lists at most, of so many items together. The memory is reserved when it is made.
-// Two vectors and not a vector of vectors: all memory is reserved when it is made, and no call allocates.
+// Two vectors and not a vector of vectors: all memory is reserved when it is made, so that a piece with room for it always enters.
 #[derive(Drop)]
 pub struct Pieces<T> {
     items: Vec<T>,

@@ -16,7 +16,7 @@ pub mod removals;
 pub mod validate;
 
 // Templates, with the bodies of the static policies among them; all policies, links and static ones; and the members
-// of the reverse sets, each a policy under its template. What the four facts and those of the tables say together is
+// of the reverse sets, each a policy under its template. What the four facts and `once` of the tables say together is
 // `Sound` of specs/Sound.antt, in words.
 #[derive(Drop)]
 pub struct PolicySet {
