@@ -1,4 +1,5 @@
 -- The slots of a list of nodes, node by node, and where they stand.
+use Rattle.std.specs.Prelude.{Decides}
 use Rattle.std.proofs.Common.{◌≡◌, ℕ, zero, suc, ◌<◌, true, List, [], ◌∷◌, Some, sym, ap, ◌∙◌, inl, inr, arith}
 use lib.Bits.{bit_or}
 use Rattle.std.specs.List.{slice_get}
@@ -7,10 +8,10 @@ use Rattle.refusals.specs.declared.slots.SlotId.{SlotId}
 use Rattle.refusals.specs.declared.slots.SlotId.TheVariants.{Principal, Resource}
 use Rattle.clauses.specs.declared.tree.node.Node.{Node}
 use Rattle.clauses.specs.declared.tree.node.Node.TheVariants.{Slot}
-use Rattle.clauses.specs.Slots.{Tells}
+use Rattle.refusals.specs.Slots.{has_bit}
 use Rattle.clauses.specs.Nodes.{same_node, node_slots, mentions, tree_slots, Mentions}
 use Rattle.clauses.specs.NodeEquals.{node_decides}
-use Rattle.clauses.specs.SlotSets.{set_or_or, set_tells}
+use Rattle.clauses.specs.SlotSets.{set_or_or, set_decides}
 
 -- One node more of what is left.
 pub node_more : (n more sum : ℕ) (node : Node) (rest : List Node) → n < 4 → more ≡ node_slots node → sum ≡ bit_or n more
@@ -36,10 +37,10 @@ stands_mentioned slot (n ∷ ns) zero h =
 stands_mentioned slot (n ∷ ns) (suc place) h = or_right (same_node (Slot slot) n) (mentions slot ns) (stands_mentioned slot ns place h)
 
 -- The slots of the nodes are those that stand among them.
-pub mentions-told : (n : ℕ) (nodes : List Node) → n ≡ tree_slots nodes → (slot : SlotId) → Tells n slot (Mentions slot nodes)
+pub mentions-told : (n : ℕ) (nodes : List Node) → n ≡ tree_slots nodes → (slot : SlotId) → Decides (has_bit slot n) (Mentions slot nodes)
 mentions-told n nodes e Principal =
-    set_tells Principal (mentions Principal nodes) (mentions Resource nodes) n (Mentions Principal nodes) e
-    (mentioned Principal nodes) (λ m. stands_mentioned Principal nodes m.place m.stands)
+    set_decides Principal (mentions Principal nodes) (mentions Resource nodes) n (Mentions Principal nodes) e
+    (mentioned Principal nodes, λ m. stands_mentioned Principal nodes m.place m.stands)
 mentions-told n nodes e Resource =
-    set_tells Resource (mentions Principal nodes) (mentions Resource nodes) n (Mentions Resource nodes) e
-    (mentioned Resource nodes) (λ m. stands_mentioned Resource nodes m.place m.stands)
+    set_decides Resource (mentions Principal nodes) (mentions Resource nodes) n (Mentions Resource nodes) e
+    (mentioned Resource nodes, λ m. stands_mentioned Resource nodes m.place m.stands)

@@ -1,13 +1,14 @@
 -- A scan sees a slot exactly where the text spells it.
+use Rattle.std.specs.Prelude.{Decides}
 use Rattle.std.proofs.Common.{◌≡◌, ℕ, true, eqb, List, [], ◌∷◌, ◌++◌, sym, refl, ap, ◌∙◌, subst, inl, inr, arith}
 use Rattle.std.proofs.lemmas.Bool.{and_parts, and_from, or_cases, or_left, or_right, eqb-true, eq-eqb}
 use Rattle.refusals.specs.declared.slots.SlotId.{SlotId}
 use Rattle.refusals.specs.declared.slots.SlotId.TheVariants.{Principal, Resource}
 use Rattle.clauses.specs.declared.sealed.scanner.Scanner.{Scanner}
 use Rattle.clauses.specs.declared.sealed.scanner.Scanner.TheVariants.{Plain, String, Escaped}
-use Rattle.clauses.specs.Slots.{Tells}
+use Rattle.refusals.specs.Slots.{has_bit}
 use Rattle.clauses.specs.Sealed.{spelling, no_word, Spells, stepped, starts, seen, scanned, text_slots}
-use Rattle.clauses.specs.SlotSets.{set_tells}
+use Rattle.clauses.specs.SlotSets.{set_decides}
 use Rattle.clauses.proofs.Strings.{after, closed_after, after_closed}
 
 -- A text that spells the slot for a scanner that begins in some state.
@@ -70,8 +71,8 @@ spells_scanned slot text s =
     ap (scanned slot Plain) s.split ∙ from_scanned slot Plain s.front s.rest (closed_after s.front s.outside) s.over
 
 -- The slots of a text are those that it spells.
-pub slots_told : (n : ℕ) (text : List ℕ) → n ≡ text_slots text → (slot : SlotId) → Tells n slot (Spells slot text)
+pub slots_told : (n : ℕ) (text : List ℕ) → n ≡ text_slots text → (slot : SlotId) → Decides (has_bit slot n) (Spells slot text)
 slots_told n text e Principal =
-    set_tells Principal (scanned Principal Plain text) (scanned Resource Plain text) n (Spells Principal text) e (scanned_spells Principal text) (spells_scanned Principal text)
+    set_decides Principal (scanned Principal Plain text) (scanned Resource Plain text) n (Spells Principal text) e (scanned_spells Principal text, spells_scanned Principal text)
 slots_told n text e Resource =
-    set_tells Resource (scanned Principal Plain text) (scanned Resource Plain text) n (Spells Resource text) e (scanned_spells Resource text) (spells_scanned Resource text)
+    set_decides Resource (scanned Principal Plain text) (scanned Resource Plain text) n (Spells Resource text) e (scanned_spells Resource text, spells_scanned Resource text)

@@ -1,12 +1,12 @@
 -- Slot sets as two answers.
 -- These are lemmas, and no reader has to believe them: they stand in specs/ since SealedLaw and TreeLaw rest on them.
-use Rattle.std.specs.Prelude.{◌≡◌, ℕ, zero, suc, ◌<◌, Bool, true, false, ◌||◌, bit_and, bit_or, refl}
-use Rattle.std.proofs.Common.{sym, ◌∙◌, ap, arith}
+use Rattle.std.specs.Prelude.{◌≡◌, ℕ, zero, suc, ◌<◌, Bool, true, false, ◌||◌, bit_or, refl, Decides}
+use Rattle.std.proofs.Common.{sym, subst, ◌∙◌, ap, arith}
 use Rattle.std.proofs.Math.Bool.{or_assoc}
-use Rattle.refusals.specs.Refusals.{slot_bit}
 use Rattle.refusals.specs.declared.slots.SlotId.{SlotId}
 use Rattle.refusals.specs.declared.slots.SlotId.TheVariants.{Principal, Resource}
-use Rattle.clauses.specs.Slots.{slot_set, Tells}
+use Rattle.refusals.specs.Slots.{has_bit}
+use Rattle.clauses.specs.Slots.{slot_set}
 
 -- A slot set is two bits.
 pub set_small : (p r : Bool) → slot_set p r < 4
@@ -59,28 +59,17 @@ abbrev pub answer : SlotId → Bool → Bool → Bool
 answer Principal p r = p
 answer Resource p r = r
 
--- A slot whose bit is set is answered with yes,
-in_set : (slot : SlotId) (p r : Bool) → bit_and (slot_set p r) (slot_bit slot) ≡ slot_bit slot → answer slot p r ≡ true
-in_set Principal true r h = refl
-in_set Principal false true h = absurd (omega arith)
-in_set Principal false false h = absurd (omega arith)
-in_set Resource p true h = refl
-in_set Resource true false h = absurd (omega arith)
-in_set Resource false false h = absurd (omega arith)
+-- A slot is in the set where it is answered with yes.
+has_answer : (slot : SlotId) (p r : Bool) → has_bit slot (slot_set p r) ≡ answer slot p r
+has_answer Principal true true = refl
+has_answer Principal true false = refl
+has_answer Principal false true = refl
+has_answer Principal false false = refl
+has_answer Resource true true = refl
+has_answer Resource true false = refl
+has_answer Resource false true = refl
+has_answer Resource false false = refl
 
--- and the bit of a slot that is answered with yes is set.
-set_in : (slot : SlotId) (p r : Bool) → answer slot p r ≡ true → bit_and (slot_set p r) (slot_bit slot) ≡ slot_bit slot
-set_in Principal true true h = refl
-set_in Principal true false h = refl
-set_in Principal false r h = let z : ◌≡◌ {A = ℕ} 0 1 = cc in absurd (omega arith)
-set_in Resource true true h = refl
-set_in Resource false true h = refl
-set_in Resource p false h = let z : ◌≡◌ {A = ℕ} 0 1 = cc in absurd (omega arith)
-
--- A set tells what its two answers tell.
-pub set_tells : (slot : SlotId) (p r : Bool) (n : ℕ) (P : Type 0) → n ≡ slot_set p r
-    → (answer slot p r ≡ true → P) → (P → answer slot p r ≡ true) → Tells n slot P
-set_tells slot p r n P e f g = record {
-  only = λ h. f (in_set slot p r (ap (λ (x : ℕ). bit_and x (slot_bit slot)) (sym e) ∙ h));
-  whenever = λ h. ap (λ (x : ℕ). bit_and x (slot_bit slot)) e ∙ set_in slot p r (g h);
-}
+-- A set decides what its two answers decide.
+pub set_decides : (slot : SlotId) (p r : Bool) (n : ℕ) (P : Type 0) → n ≡ slot_set p r → Decides (answer slot p r) P → Decides (has_bit slot n) P
+set_decides slot p r n P e d = subst (λ (b : Bool). Decides b P) (sym (ap (has_bit slot) e ∙ has_answer slot p r)) d

@@ -1,6 +1,6 @@
-ghost use Rattle.std.specs.Prelude.{◌≡◌};
+ghost use Rattle.std.specs.Prelude.{◌≡◌, Decides};
 ghost use Rattle.refusals.specs.declared.slots.SlotId.{SlotId as Slot};
-ghost use Rattle.clauses.specs.Slots.{Tells};
+ghost use Rattle.refusals.specs.Slots.{has};
 ghost use Rattle.clauses.specs.Sealed.{no_word, stepped, slot_at_start, slots_seen, text_slots, text_constant, Spells};
 
 use crate::sealed::scanner::Scanner;
@@ -79,7 +79,7 @@ impl Scanner {
 // The slots of a sealed text.
 pub fn slots_of_text(text: &[u8]) -> SlotSet
     ensures slots { result.bits ≡ text_slots text.now }
-    ensures told { (slot : Slot) → Tells result.bits slot (Spells slot text.now) }
+    ensures told { (slot : Slot) → Decides (has slot result) (Spells slot text.now) }
 {
     let mut scanner = Scanner::Plain;
     let mut slots = SlotSet::empty();

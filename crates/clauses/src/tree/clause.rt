@@ -1,6 +1,6 @@
-ghost use Rattle.std.specs.Prelude.{◌≡◌};
+ghost use Rattle.std.specs.Prelude.{◌≡◌, Decides};
 ghost use Rattle.refusals.specs.declared.slots.SlotId.{SlotId as AnySlot};
-ghost use Rattle.clauses.specs.Slots.{Tells};
+ghost use Rattle.refusals.specs.Slots.{has};
 ghost use Rattle.clauses.specs.Nodes.{node_slots, tree_slots, tree_constant, Mentions};
 
 use crate::tree::node::Node;
@@ -21,7 +21,7 @@ impl Node {
 // The slots of a tree: those of its nodes.
 pub fn slots_of_tree(nodes: &[Node]) -> SlotSet
     ensures slots { result.bits ≡ tree_slots nodes.now }
-    ensures told { (slot : AnySlot) → Tells result.bits slot (Mentions slot nodes.now) }
+    ensures told { (slot : AnySlot) → Decides (has slot result) (Mentions slot nodes.now) }
 {
     let mut slots = SlotSet::empty();
     for node in nodes {
