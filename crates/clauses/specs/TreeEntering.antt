@@ -36,7 +36,7 @@ tree_check texts nodes =
 abbrev pub tree_answer : List (List ℕ) → List (List Node) → List Node → Result ℕ Refusal
 tree_answer texts trees nodes = and_then (tree_check texts nodes) (next_number trees)
 
--- The law of entering a tree: accepted exactly when it is short enough, its names are known, its types keep the rule, it is the writing of one tree and there is room; refused for what is wrong.
+-- The law of entering a tree: accepted exactly when it is short enough, its names are known, its types keep the rule, it is the writing of one tree and there is room; 1, 5 and 7 name the first name, type or place that is wrong.
 pub record TreeEntered (texts : List (List ℕ)) (trees : List (List Node)) (nodes : List Node) (answer : Result ℕ Refusal) : Type 0 where
   pub accepts : length nodes ≤ 64 → AllByRecursion (Known texts) (names_in nodes) → AllByRecursion (Typed texts) (types_in nodes) → One takes nodes → length trees < 256
       → answer ≡ Ok (length trees)

@@ -4,7 +4,7 @@ use Rattle.std.specs.Str.{bytes_eq}
 use Rattle.refusals.specs.declared.refusal.Refusal.{Refusal}
 use Rattle.refusals.specs.declared.refusal.Refusal.TheVariants.{UnknownName, TooLong, BookFull}
 
--- How much a book may hold.
+-- How much a book may hold: so many texts, of so many bytes together.
 pub record Limits : Type 0 where
   pub places : ℕ
   pub room : ℕ

@@ -2,6 +2,7 @@ ghost use Rattle.std.specs.Prelude.{◌≡◌, ℕ, ◌+◌, ◌<◌, ◌≤◌,
 ghost use Rattle.arrayvec.specs.ArrayVec.{array_vec_len};
 ghost use Rattle.names.specs.Book.{texts};
 ghost use Rattle.clauses.specs.Tree.{written, One};
+ghost use Rattle.clauses.specs.Shape.{OneTree};
 ghost use Rattle.policy.specs.Calls.{condition_answer};
 ghost use Rattle.policy.specs.Evaluation.{Means};
 ghost use Rattle.policy.specs.Hierarchy.{InDecided};
@@ -170,6 +171,7 @@ impl Template {
         ensures buffer { buffer.new ≡ buffer_after (written (condition_tree (B.ClauseBook.listed clauses.now) self.now)) buffer.old result }
         ensures few { IfOk result (λ count. count ≤ 27) }
         ensures one_tree { One arity (written (condition_tree (B.ClauseBook.listed clauses.now) self.now)) }
+        ensures one_reading { OneTree arity (written (condition_tree (B.ClauseBook.listed clauses.now) self.now)) }
         ensures means { Means (B.ClauseBook.listed clauses.now) self.now }
         ensures hierarchy { InDecided }
     {

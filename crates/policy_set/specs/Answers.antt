@@ -1,4 +1,5 @@
--- What each call on a policy set answers, and the maps after it.
+-- What each call on a policy set answers, and the maps after it: `count` is the name book's count, `cs` are the clauses of
+-- the clause book, `same` is its test for equal contents.
 use Rattle.std.specs.Prelude.{ℕ, Bool, true, false, cond, not, ◌&&◌, List, [], ◌∷◌, ◌++◌, is_some, Some, None, Ok, Err, filter, Option, Result, ◌==◌}
 use Rattle.refusals.specs.declared.refusal.Refusal.{Refusal}
 use Rattle.refusals.specs.declared.refusal.Refusal.TheVariants.{SlotCacheMismatch, Occupied, NoSuchTemplate, PolicyIdConflict, NotLinkError, UnlinkingError, RemovePolicyNoLinkError, RemovePolicyNoTemplateError, NotTemplateError, RemoveTemplateNoTemplateError, RemoveTemplateWithLinksError, Slotless, Crossed, Full}
@@ -55,11 +56,11 @@ is_empty m = no_rows m.templates && no_rows m.policies
 
 -- `get`: the policy of an id.
 abbrev pub get_answer : ℕ → Maps → ℕ → Result (Option Parts) Refusal
-get_answer names m id = and_then (names_known names (id ∷ [])) (Ok (in_force m id))
+get_answer count m id = and_then (names_known count (id ∷ [])) (Ok (in_force m id))
 
 -- `get_template`: the template of an id.
 abbrev pub get_template_answer : ℕ → Maps → ℕ → Result (Option Template) Refusal
-get_template_answer names m id = and_then (names_known names (id ∷ [])) (Ok (template_at m id))
+get_template_answer count m id = and_then (names_known count (id ∷ [])) (Ok (template_at m id))
 
 -- Refusal 9 of a template whose slots are not its condition's.
 abbrev pub slots_cached : {C : Type 0} → List (Clause C) → Template → Result (Unit {0}) Refusal
@@ -67,12 +68,12 @@ slots_cached cs t = refuse_if (not (t.slots.bits == (condition_slots cs t).bits)
 
 -- What a template and a static body are refused for alike: 1 and 2, 9 and 10.
 abbrev pub enter_answer : {C : Type 0} → ℕ → List (Clause C) → Maps → Template → Result (Unit {0}) Refusal
-enter_answer names cs m t = and_then (template_known names cs t) (and_then (slots_cached cs t) (refuse_if (bound m t.id) (Occupied t.id)))
+enter_answer count cs m t = and_then (template_known count cs t) (and_then (slots_cached cs t) (refuse_if (bound m t.id) (Occupied t.id)))
 
 -- `add_template`: 1 and 2, 9, 10, 25 and 27.
 abbrev pub add_template_answer : {C : Type 0} → ℕ → List (Clause C) → Maps → Template → Result (Unit {0}) Refusal
-add_template_answer names cs m t =
-    and_then (enter_answer names cs m t)
+add_template_answer count cs m t =
+    and_then (enter_answer count cs m t)
     (and_then (refuse_if (not (has_slots t)) (Slotless t.id))
     (refuse_if (not (has_room 64 m.templates)) (Full Templates)))
 
@@ -82,7 +83,7 @@ with_template t m = record { templates = m.templates ++ t ∷ []; policies = m.p
 
 -- The maps after `add_template`.
 abbrev pub add_template_after : {C : Type 0} → ℕ → List (Clause C) → Maps → Template → Maps
-add_template_after names cs m t = if_accepted (add_template_answer names cs m t) (with_template t m) m
+add_template_after count cs m t = if_accepted (add_template_answer count cs m t) (with_template t m) m
 
 -- The maps with one policy more, last among the policies and among the members.
 abbrev pub with_policy : PolicyRow → Maps → Maps
@@ -94,8 +95,8 @@ with_policy r m = record {
 
 -- `add_static`: 1 and 2, 9, 10 and 27.
 abbrev pub add_static_answer : {C : Type 0} → ℕ → List (Clause C) → Maps → Template → Result (Unit {0}) Refusal
-add_static_answer names cs m t =
-    and_then (enter_answer names cs m t)
+add_static_answer count cs m t =
+    and_then (enter_answer count cs m t)
     (and_then (refuse_if (not (has_room 64 m.templates)) (Full Templates))
     (refuse_if (not (has_room 256 m.policies)) (Full Policies)))
 
@@ -113,7 +114,7 @@ row_for p = record { id = id_of p; template = p.template.id; link = is_some p.li
 
 -- The maps after `add_static`.
 abbrev pub add_static_after : {C : Type 0} → ℕ → List (Clause C) → Maps → Template → Maps
-add_static_after names cs m t = if_accepted (add_static_answer names cs m t) (with_policy (row_for (static_parts t)) (with_template t m)) m
+add_static_after count cs m t = if_accepted (add_static_answer count cs m t) (with_policy (row_for (static_parts t)) (with_template t m)) m
 
 -- An unequal template has the template's id; clauses are compared by `same`.
 abbrev pub other_template : (ℕ → ℕ → Bool) → Maps → Template → Bool
@@ -136,8 +137,8 @@ rows_fit m t =
 
 -- `add`: 1 and 2, 9, 10 of the template and of the policy, 25 and 26 of a link, 27.
 abbrev pub add_answer : {C : Type 0} → ℕ → List (Clause C) → (ℕ → ℕ → Bool) → Maps → Policy → Result (Unit {0}) Refusal
-add_answer names cs same m p =
-    and_then (policy_known names cs p)
+add_answer count cs same m p =
+    and_then (policy_known count cs p)
     (and_then (slots_cached cs p.template)
     (and_then (refuse_if (other_template same m p.template) (Occupied p.template.id))
     (and_then (refuse_if (is_some (row_at m (id_of (parts p)))) (Occupied (id_of (parts p))))
@@ -150,7 +151,7 @@ with_or_inserted t m = record { templates = or_inserted template_id t m.template
 
 -- The maps after `add`.
 abbrev pub add_after : {C : Type 0} → ℕ → List (Clause C) → (ℕ → ℕ → Bool) → Maps → Policy → Maps
-add_after names cs same m p = if_accepted (add_answer names cs same m p) (with_policy (row_for (parts p)) (with_or_inserted p.template m)) m
+add_after count cs same m p = if_accepted (add_answer count cs same m p) (with_policy (row_for (parts p)) (with_or_inserted p.template m)) m
 
 -- The link of a template: 12, 13, 25 and 27; else the new policy.
 abbrev pub linked_answer : Maps → ℕ → SlotEnv → Template → Result Parts Refusal
@@ -163,8 +164,8 @@ linked_answer m new values t =
 
 -- `link`: 1 and 11, then those of the link; else the new policy.
 abbrev pub link_answer : ℕ → Maps → ℕ → ℕ → SlotEnv → Result Parts Refusal
-link_answer names m template new values =
-    and_then (names_known names (template ∷ new ∷ values_names values))
+link_answer count m template new values =
+    and_then (names_known count (template ∷ new ∷ values_names values))
     (found_then (NoSuchTemplate template) (template_at m template) (linked_answer m new values))
 
 -- The row of a link.
@@ -173,12 +174,12 @@ link_row template new values = record { id = new; template = template; link = tr
 
 -- The maps after `link`.
 abbrev pub link_after : ℕ → Maps → ℕ → ℕ → SlotEnv → Maps
-link_after names m template new values = if_accepted (link_answer names m template new values) (with_policy (link_row template new values) m) m
+link_after count m template new values = if_accepted (link_answer count m template new values) (with_policy (link_row template new values) m) m
 
 -- `unlink`: 1, 14 and 15; else the policy.
 abbrev pub unlink_answer : ℕ → Maps → ℕ → Result Parts Refusal
-unlink_answer names m id =
-    and_then (names_known names (id ∷ []))
+unlink_answer count m id =
+    and_then (names_known count (id ∷ []))
     (and_then (refuse_if (is_some (template_at m id)) (NotLinkError id))
     (found_then (UnlinkingError id) (in_force m id) Ok))
 
@@ -192,7 +193,7 @@ without_policy id m = record {
 
 -- The maps after `unlink`.
 abbrev pub unlink_after : ℕ → Maps → ℕ → Maps
-unlink_after names m id = if_accepted (unlink_answer names m id) (without_policy id m) m
+unlink_after count m id = if_accepted (unlink_answer count m id) (without_policy id m) m
 
 -- A policy whose id is a template's too: 16 and 17 where it is not one.
 abbrev pub static_policy : ℕ → Option Parts → Bool → Result Parts Refusal
@@ -201,7 +202,7 @@ static_policy id (Some p) in-templates = cond in-templates (Ok p) (Err (RemovePo
 
 -- `remove_static`: 1, 16 and 17; else the policy.
 abbrev pub remove_static_answer : ℕ → Maps → ℕ → Result Parts Refusal
-remove_static_answer names m id = and_then (names_known names (id ∷ [])) (static_policy id (in_force m id) (is_some (template_at m id)))
+remove_static_answer count m id = and_then (names_known count (id ∷ [])) (static_policy id (in_force m id) (is_some (template_at m id)))
 
 -- The maps without a template.
 abbrev pub without_template : ℕ → Maps → Maps
@@ -218,16 +219,16 @@ static_removed id (Some p) in-templates m = cond in-templates (without_template 
 
 -- The maps after `remove_static`: they change at 17 too.
 abbrev pub remove_static_after : ℕ → Maps → ℕ → Maps
-remove_static_after names m id = if_accepted (names_known names (id ∷ [])) (static_removed id (in_force m id) (is_some (template_at m id)) m) m
+remove_static_after count m id = if_accepted (names_known count (id ∷ [])) (static_removed id (in_force m id) (is_some (template_at m id)) m) m
 
 -- `remove_template`: 1, 18, 19 and 20; else the template.
 abbrev pub remove_template_answer : ℕ → Maps → ℕ → Result Template Refusal
-remove_template_answer names m id =
-    and_then (names_known names (id ∷ []))
+remove_template_answer count m id =
+    and_then (names_known count (id ∷ []))
     (and_then (refuse_if (is_some (row_at m id)) (NotTemplateError id))
     (found_then (RemoveTemplateNoTemplateError id) (template_at m id)
     (λ t. cond (no_rows (reverse_set id m)) (Ok t) (Err (RemoveTemplateWithLinksError id)))))
 
 -- The maps after `remove_template`.
 abbrev pub remove_template_after : ℕ → Maps → ℕ → Maps
-remove_template_after names m id = if_accepted (remove_template_answer names m id) (without_template id m) m
+remove_template_after count m id = if_accepted (remove_template_answer count m id) (without_template id m) m

@@ -25,7 +25,7 @@ attempt texts fresh c = record {
   fresh = fresh + one_if (not (is_some (number_of (candidate c) texts)));
 }
 
--- A try leaves at most one new text more.
+-- A try leaves at most one new text more, and its counter is past its text.
 pub record Next (fresh : ℕ) (t : Try) : Type 0 where
   pub low : fresh ≤ t.fresh
   pub high : t.fresh ≤ fresh + 1

@@ -35,7 +35,7 @@ pub record Refused (before after : Maps) (e : Refusal) : Type 0 where
   pub same : (number e ≢ 17) → after ≡ before
   pub names : (k : ℕ) → named after k ≡ named before k
 
--- The removal of a policy: what is handed back is gone, or nothing has changed.
+-- The removal of a policy: what is handed back is gone; or no id names another thing, and but for 17 nothing has changed.
 abbrev pub Removal : Maps → Maps → ℕ → Result Parts Refusal → Type 0
 Removal before after id answer = MatchResult answer (λ p. Removes before after id (policy p)) (Refused before after)
 

@@ -1,4 +1,4 @@
--- Listings: what stands at each place, counted from 0.
+-- Listings: what stands at each place, counted from 0. `count` is the name book's count.
 use Rattle.std.specs.Prelude.{◌≡◌, ℕ, Bool, true, not, List, [], ◌∷◌, is_some, Some, Ok, filter, Option, Result}
 use Rattle.std.specs.List.{slice_get}
 use Rattle.refusals.specs.declared.refusal.Refusal.{Refusal}
@@ -35,14 +35,14 @@ templates_answer m place = changed template_id (slice_get (filter has_slots m.te
 abbrev pub all_templates_answer : Maps → ℕ → Option ℕ
 all_templates_answer m place = changed template_id (slice_get m.templates place)
 
--- The policies of a template, in the order of its reverse set.
+-- The policy at a place of a template's reverse set.
 abbrev pub linked_at : Maps → ℕ → ℕ → Option ℕ
 linked_at m id place = changed member_id (slice_get (reverse_set id m) place)
 
 -- `get_linked_policies`: 1 and 21; else what stands at the place.
 abbrev pub get_linked_policies_answer : ℕ → Maps → ℕ → ℕ → Result (Option ℕ) Refusal
-get_linked_policies_answer names m id place =
-    and_then (names_known names (id ∷ []))
+get_linked_policies_answer count m id place =
+    and_then (names_known count (id ∷ []))
     (and_then (refuse_if (not (is_some (template_at m id))) (MissingTemplate id)) (Ok (linked_at m id place)))
 
 -- The id of a pair of ids.

@@ -53,7 +53,7 @@ blank_template = record {
   slots = record { bits = 0; two_bits = lit< tt };
 }
 
--- The template that is there.
+-- The template that is there, or the blank one.
 abbrev pub present : Option Template → Template
 present None = blank_template
 present (Some t) = t

@@ -21,7 +21,7 @@ impl Node {
 pub fn check_tree(nodes: &[Node]) -> Result<(), usize>
     ensures answer { result ≡ shape takes 0 0 nodes.now }
     ensures judged { Judged takes nodes.now result }
-    ensures one_tree { OneTree takes nodes.now }
+    ensures one_reading { OneTree takes nodes.now }
 {
     let mut standing: usize = 0;
     for (place, node) in nodes.iter().enumerate() {

@@ -7,7 +7,7 @@ ghost use Rattle.policy_set.specs.Choice.{ReadsBack};
 ghost use Rattle.policy_set.specs.Meaning.{maps_of};
 ghost use Rattle.policy_set.specs.Merge.{gathered, final, merged};
 ghost use Rattle.policy_set.specs.MergeCall.{merge_tests, merge_outcome, planned, news_for, merge_answer, merge_after, merge_buffer, merge_texts, Holdable, FindsNames};
-ghost use Rattle.policy_set.specs.MergeLaw.{Merging};
+ghost use Rattle.policy_set.specs.MergeLaw.{Merging, GathersClashes};
 
 use crate::merge::both::Both;
 use crate::merge::enter::{enter_all, text_bytes};
@@ -124,6 +124,7 @@ impl PolicySet {
         ensures limits { limits_of names.new ≡ limits_of names.old }
         ensures few { IfOk result (λ count. count ≤ 320) }
         ensures law { Merging (same_clause B.ClauseBook.equal (B.ClauseBook.listed clauses.now)) (maps_of self.old) (maps_of incoming.now) (maps_of self.new) pairs.exit.now result }
+        ensures gathers { GathersClashes (same_clause B.ClauseBook.equal (B.ClauseBook.listed clauses.now)) (maps_of self.old) (maps_of incoming.now) }
         ensures new_names { IfOk result (λ n. ReadsBack (texts_of names.new) (take n pairs.exit.now)) }
         ensures finds_names { FindsNames (limits_of names.old) (texts_of names.old) (same_clause B.ClauseBook.equal (B.ClauseBook.listed clauses.now)) (maps_of self.old) (maps_of incoming.now) result }
     {

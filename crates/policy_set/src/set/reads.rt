@@ -6,6 +6,7 @@ ghost use Rattle.policy_set.specs.Answers.{empty, is_empty, no_rows, reverse_set
 ghost use Rattle.policy_set.specs.Handed.{parts_found};
 ghost use Rattle.policy.specs.Arity.{parts};
 ghost use Rattle.policy_set.specs.Meaning.{maps_of};
+ghost use Rattle.policy_set.specs.Sound.{Sound};
 
 use crate::rows::{BLANK_MEMBER, BLANK_POLICY, BLANK_TEMPLATE, PolicyRow};
 use crate::set::PolicySet;
@@ -96,9 +97,10 @@ impl PolicySet {
         })
     }
 
-    // The policy with an id, if there is one.
+    // The policy with an id, if there is one. `sound` says what the type of every set keeps.
     pub fn get(&self, id: NameNumber, names: &NameBook) -> Result<Option<Policy>, Refusal>
-        ensures { parts_found result ≡ get_answer (length (texts names.now)) (maps_of self.now) id }
+        ensures answer { parts_found result ≡ get_answer (length (texts names.now)) (maps_of self.now) id }
+        ensures sound { Sound (maps_of self.now) }
     {
         check_name(names, id)?;
         Ok(self.in_force(id))

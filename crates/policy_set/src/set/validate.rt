@@ -1,7 +1,7 @@
 // Validating the templates of a set.
 ghost use Rattle.std.specs.Prelude.{◌≡◌, ◌≤◌, length};
 ghost use Rattle.names.specs.Book.{texts};
-ghost use Rattle.policy_set.specs.Held.{rows_in};
+ghost use Rattle.policy_set.specs.Meaning.{maps_of};
 ghost use Rattle.policy_set.specs.Validation.{action_typed, mask_from, template_fault, check_answer, try_validate_answer, AcceptsValid};
 
 use crate::set::PolicySet;
@@ -67,8 +67,8 @@ fn check_all<B: ClauseBook>(rows: &[Template], names: &NameBook, clauses: &B) ->
 impl PolicySet {
     // Whether every template, static bodies too, has no slot in its clause and actions of action types alone.
     pub fn try_validate<B: ClauseBook>(&self, names: &NameBook, clauses: &B) -> Result<(), Refusal>
-        ensures answer { result ≡ try_validate_answer (texts names.now) (B.ClauseBook.listed clauses.now) (rows_in self.now.templates) }
-        ensures law { AcceptsValid (texts names.now) (B.ClauseBook.listed clauses.now) (rows_in self.now.templates) result }
+        ensures answer { result ≡ try_validate_answer (texts names.now) (B.ClauseBook.listed clauses.now) (maps_of self.now).templates }
+        ensures law { AcceptsValid (texts names.now) (B.ClauseBook.listed clauses.now) (maps_of self.now).templates result }
     {
         check_all(self.templates.rows(), names, clauses)
     }

@@ -14,7 +14,7 @@ returns-then-standing-taken c =
     sym (shape_lacks takes i c.loop-place.standing (get_or ns i (Lit false)) (drop (i + 1) ns) (omega (arith, c.operands-taken.ensures)))
     ∙ sym (at_drop_more (shape takes i c.loop-place.standing) ns i (Lit false) c.loop-place-test.true)
     ∙ c.loop-place.invariant.1 in
-    record { answer = e; judged = judged takes ns (Err i) e; one_tree = one_tree takes ns }
+    record { answer = e; judged = judged takes ns (Err i) e; one_reading = one_tree takes ns }
 
 pub loop-place-preserved : goal.loop-place-preserved
 loop-place-preserved c =
@@ -36,7 +36,7 @@ returns-then-standing-eq1 c =
     sym (shape_one takes i c.loop-place.standing c.if-standing-eq1.true)
     ∙ sym (at_drop_all (shape takes i c.loop-place.standing) ns i c.loop-place-test.false)
     ∙ c.loop-place.invariant.1 in
-    record { answer = e; judged = judged takes ns (Ok tt) e; one_tree = one_tree takes ns }
+    record { answer = e; judged = judged takes ns (Ok tt) e; one_reading = one_tree takes ns }
 
 pub returns-else-standing-eq1 : goal.returns-else-standing-eq1
 returns-else-standing-eq1 c =
@@ -48,4 +48,4 @@ returns-else-standing-eq1 c =
     ∙ sym (shape_uneven takes i c.loop-place.standing c.if-standing-eq1.false)
     ∙ sym (at_drop_all (shape takes i c.loop-place.standing) ns i c.loop-place-test.false)
     ∙ c.loop-place.invariant.1 in
-    record { answer = e; judged = judged takes ns (Err (length ns)) e; one_tree = one_tree takes ns }
+    record { answer = e; judged = judged takes ns (Err (length ns)) e; one_reading = one_tree takes ns }

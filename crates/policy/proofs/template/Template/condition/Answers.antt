@@ -2,6 +2,7 @@ use Rattle.std.proofs.Common.{ℕ, List, length, Result, sym, refl, ap, ◌∙�
 use Rattle.refusals.specs.declared.refusal.Refusal.{Refusal}
 use Rattle.clauses.specs.Book.{Clause}
 use Rattle.clauses.specs.Tree.{written, One}
+use Rattle.clauses.proofs.Rows.{one_tree as reads_once}
 use Rattle.policy.specs.declared.node.ConditionNode.{ConditionNode}
 use Rattle.policy.specs.declared.template.Template.{Template}
 use Rattle.policy.specs.Known.{template_known}
@@ -26,6 +27,7 @@ returns-in_err-known_template g c =
       buffer = ap (λ (r : Result ℕ Refusal). buffer_after (written (condition_tree cs t)) c.args.buffer.now r) (sym e);
       few = search rules;
       one_tree = one_tree cs t;
+      one_reading = reads_once arity (written (condition_tree cs t));
       means = means cs t;
       hierarchy = in_decided;
     }
@@ -43,6 +45,7 @@ returns g c =
       buffer = c.copy_out.ensures.buffer ∙ ap (λ (ns : List ConditionNode). buffer_after ns c.args.buffer.now c.copy_out.result) same;
       few = search rules;
       one_tree = one_tree cs t;
+      one_reading = reads_once arity (written (condition_tree cs t));
       means = means cs t;
       hierarchy = in_decided;
     }

@@ -14,6 +14,7 @@ use Rattle.policy_set.specs.MergeCall.{merge_outcome, merge_answer, merge_texts,
 use Rattle.policy_set.specs.MergeLaw.{Merges}
 use Rattle.policy_set.proofs.MergeSteps.{Ready, ready, few_rows, first_part}
 use Rattle.policy_set.proofs.Outcomes.{few_pairs}
+use Rattle.policy_set.proofs.Gathered.{gathers}
 use Rattle.policy_set.proofs.Sets.{sound}
 use Rattle.policy_set.proofs.set.PolicySet.merge_policyset.Goals as goal
 
@@ -67,6 +68,16 @@ returns-clause-law g c =
     c.apply.ensures ∙ ap (λ (ps : List Renaming). merged (final ps) live inc) c.deref.ensures.0 in
     subst (λ (ps : List Renaming). Merges same live inc (maps_of c.apply.new.self) ps) (sym (first_pairs g c))
     (subst (λ (m : Maps). Merges same live inc m c.in_ok-plan.plan.pairs.items) (sym a) r.merges)
+
+pub returns-in_err-plan-clause-gathers : goal.returns-in_err-plan-clause-gathers
+returns-in_err-plan-clause-gathers g c =
+    gathers (same_clause g.B.ClauseBook.equal (g.B.ClauseBook.listed c.args.clauses.now)) (maps_of c.args.self.now) (maps_of c.args.incoming.now)
+    (sound c.args.self.now) (sound c.args.incoming.now)
+
+pub returns-clause-gathers : goal.returns-clause-gathers
+returns-clause-gathers g c =
+    gathers (same_clause g.B.ClauseBook.equal (g.B.ClauseBook.listed c.args.clauses.now)) (maps_of c.args.self.now) (maps_of c.args.incoming.now)
+    (sound c.args.self.now) (sound c.args.incoming.now)
 
 pub returns-clause-few : goal.returns-clause-few
 returns-clause-few g c =
