@@ -18,7 +18,8 @@ use Rattle.policy_set.specs.Answers.{enter_answer, add_template_answer, add_stat
 use Rattle.policy_set.specs.Laws.{Adds, Removes, Grants, kept_record}
 use Rattle.policy_set.specs.Merge.{parts_equal, final, merged}
 use Rattle.policy_set.specs.MergeCall.{merge_outcome}
-use Rattle.policy_set.specs.Tally.{Tally, grant, merge_tally, AllFit, Holds}
+use Rattle.policy_set.specs.Tally.{Tally, grant, merge_tally, AllFit}
+use Rattle.policy_set.proofs.Holding.{Holds}
 use Rattle.policy_set.proofs.Accepted.{NewPolicy, accepted_then, new_template, new_static, new_policy, link_of_template, unlinkable, removable}
 use Rattle.policy_set.proofs.Added.{Own, template_added, template_adds, static_added, static_adds, link_adds}
 use Rattle.policy_set.proofs.Granted.{granted, or_present, or_new}

@@ -14,7 +14,8 @@ use Rattle.policy_set.specs.Maps.{Maps, template_at, in_force}
 use Rattle.policy_set.specs.Sound.{Sound}
 use Rattle.policy_set.specs.Answers.{if_accepted, add_template_answer, add_static_answer, add_answer, link_answer, unlink_answer, static_policy, static_removed, remove_template_answer, static_parts, row_for, link_row, with_template, with_policy, with_or_inserted, without_policy, without_template}
 use Rattle.policy_set.specs.MergeCall.{merge_after, merge_texts}
-use Rattle.policy_set.specs.Tally.{Tally, Holds}
+use Rattle.policy_set.specs.Tally.{Tally}
+use Rattle.policy_set.proofs.Holding.{Holds}
 use Rattle.policy_set.proofs.Accepted.{unlinkable}
 use Rattle.policy_set.proofs.Lookups.{is_some as some_there}
 use Rattle.calls.specs.declared.call.Side.{Side}

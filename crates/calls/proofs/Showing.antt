@@ -17,7 +17,8 @@ use Rattle.policy_set.specs.Rows.{template_id, policy_id, member_id}
 use Rattle.policy_set.specs.Maps.{Maps, template_at, row_at, changed, passes, present, link_of, whole, in_force}
 use Rattle.policy_set.specs.Sound.{Sound, member}
 use Rattle.policy_set.specs.Answers.{is_under, reverse_set}
-use Rattle.policy_set.specs.Tally.{Tally, Holds}
+use Rattle.policy_set.specs.Tally.{Tally}
+use Rattle.policy_set.proofs.Holding.{Holds}
 use Rattle.policy_set.proofs.Lookups.{lookup_key, no_some, once_tail, once_head}
 use Rattle.policy_set.proofs.Sounds.{has_slots_from, template_of, unlinked_slotless}
 use Rattle.calls.specs.Law.{OneThing, Binds, Fit, Shown}

@@ -1,3 +1,5 @@
+pub mod SlotSets
+pub mod Listing
 pub mod Holding
 pub mod Scanning
 pub mod Strings

@@ -11,7 +11,7 @@ use Rattle.clauses.specs.declared.tree.node.Node.TheVariants.{Slot}
 use Rattle.refusals.specs.Slots.{has_bit}
 use Rattle.clauses.specs.Nodes.{same_node, node_slots, mentions, tree_slots, Mentions}
 use Rattle.clauses.specs.NodeEquals.{node_decides}
-use Rattle.clauses.specs.SlotSets.{set_or_or, set_decides}
+use Rattle.clauses.proofs.SlotSets.{set_or_or, set_decides}
 
 -- One node more of what is left.
 pub node_more : (n more sum : ℕ) (node : Node) (rest : List Node) → n < 4 → more ≡ node_slots node → sum ≡ bit_or n more

@@ -6,7 +6,7 @@ use Rattle.refusals.specs.declared.slots.SlotId.TheVariants.{Principal, Resource
 use Rattle.clauses.specs.declared.sealed.scanner.Scanner.{Scanner}
 use Rattle.clauses.specs.Slots.{slot_set}
 use Rattle.clauses.specs.Sealed.{stepped, seen, slots_seen, scanned, text_slots}
-use Rattle.clauses.specs.SlotSets.{set_or_or}
+use Rattle.clauses.proofs.SlotSets.{set_or_or}
 
 -- The slots that a scan from some state on sees.
 abbrev pub slots_left : Scanner → List ℕ → ℕ

@@ -8,7 +8,7 @@ use Rattle.clauses.specs.declared.sealed.scanner.Scanner.{Scanner}
 use Rattle.clauses.specs.declared.sealed.scanner.Scanner.TheVariants.{Plain, String, Escaped}
 use Rattle.refusals.specs.Slots.{has_bit}
 use Rattle.clauses.specs.Sealed.{spelling, no_word, Spells, stepped, starts, seen, scanned, text_slots}
-use Rattle.clauses.specs.SlotSets.{set_decides}
+use Rattle.clauses.proofs.SlotSets.{set_decides}
 use Rattle.clauses.proofs.Strings.{after, closed_after, after_closed}
 
 -- A text that spells the slot for a scanner that begins in some state.

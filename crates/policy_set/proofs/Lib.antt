@@ -26,6 +26,7 @@ mod MergedSound
 mod ReverseSets
 mod MergeLaws
 mod MergeSteps
+pub mod Holding
 pub mod Tallies
 mod Candidates
 mod NewNames

@@ -11,7 +11,8 @@ use Rattle.policy_set.specs.Maps.{Maps, template_at, row_at, changed, whole, in_
 use Rattle.policy_set.specs.Sound.{Sound}
 use Rattle.policy_set.specs.Merge.{parts_equal, things_equal, final, origin, renamed_template, renamed_row, renamed_policy, merged}
 use Rattle.policy_set.specs.MergeLaw.{Chosen}
-use Rattle.policy_set.specs.Tally.{Account, Tally, held, grant, holds_equal, granted, granted_from, merge_tally, GrantsAfter, Agrees, Shows, AllFit, Holds, Comparing, Idless, HoldsAfter}
+use Rattle.policy_set.specs.Tally.{Account, Tally, held, grant, holds_equal, granted, granted_from, merge_tally, GrantsAfter, Agrees, Shows, AllFit}
+use Rattle.policy_set.proofs.Holding.{Holds, Comparing, Idless, HoldsAfter}
 use Rattle.policy_set.proofs.Lookups.{no_some, some_same}
 use Rattle.policy_set.proofs.Sounds.{no_true}
 use Rattle.policy_set.proofs.Equals.{SameTemplate, SamePolicy, same_policy, is_parts_equal, both_renamed}

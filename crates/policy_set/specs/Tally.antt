@@ -5,8 +5,7 @@ use Rattle.policy.specs.Arity.{Parts}
 use Rattle.policy_set.specs.declared.rows.Renaming.{Renaming}
 use Rattle.policy_set.specs.Tables.{one_if}
 use Rattle.policy_set.specs.Maps.{Maps, template_at, in_force, passes}
-use Rattle.policy_set.specs.Sound.{Sound}
-use Rattle.policy_set.specs.Merge.{parts_equal, final, origin, renamed_template, renamed_policy, merged}
+use Rattle.policy_set.specs.Merge.{parts_equal, final, origin, renamed_policy}
 
 -- The account of an id: how often a policy was granted under it and taken back, and the one granted last.
 pub record Account : Type 0 where
@@ -66,22 +65,3 @@ Shows same tally m = (k : ℕ) → Agrees same (tally k) (in_force m k)
 -- Each template of the set is fit.
 abbrev pub AllFit : (Template → Type 0) → Maps → Type 0
 AllFit Fit m = (k : ℕ) (t : Template) → template_at m k ≡ Some t → Fit t
-
--- A set and its tally: each id names one thing, the accounts agree with the set, and its templates are fit.
-pub record Holds (same : ℕ → ℕ → Bool) (Fit : Template → Type 0) (m : Maps) (tally : Tally) : Type 0 where
-  pub sound : Sound m
-  pub shows : Shows same tally m
-  pub fits : AllFit Fit m
-
--- Comparing clauses is symmetric and transitive.
-pub record Comparing (same : ℕ → ℕ → Bool) : Type 0 where
-  pub symmetric : (m n : ℕ) → same m n ≡ true → same n m ≡ true
-  pub transitive : (l m n : ℕ) → same l m ≡ true → same m n ≡ true → same l n ≡ true
-
--- Fitness does not depend on a template's id.
-abbrev pub Idless : (Template → Type 0) → Type 0
-Idless Fit = (f : ℕ → ℕ) (t : Template) → Fit t → Fit (renamed_template f t)
-
--- The live set and its tally after a merge.
-abbrev pub HoldsAfter : (ℕ → ℕ → Bool) → (Template → Type 0) → Maps → Maps → Tally → Tally → List Renaming → Type 0
-HoldsAfter same Fit live incoming tl ti pairs = Holds same Fit (merged (final pairs) live incoming) (merge_tally same pairs tl ti)

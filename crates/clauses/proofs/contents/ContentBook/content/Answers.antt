@@ -1,5 +1,5 @@
 use Rattle.clauses.specs.Contents.{held}
-use Rattle.clauses.specs.Listing.{at_lent}
+use Rattle.clauses.proofs.Listing.{at_lent}
 use Rattle.clauses.proofs.contents.ContentBook.content.Goals as goal
 
 pub returns : goal.returns

@@ -1,6 +1,6 @@
 use Rattle.std.proofs.Common.{sym, ◌∙◌}
 use Rattle.clauses.specs.Contents.{held}
-use Rattle.clauses.specs.Listing.{length_listing}
+use Rattle.clauses.proofs.Listing.{length_listing}
 use Rattle.clauses.proofs.contents.entries.ContentBookClauseBook.count.Goals as goal
 
 pub returns : goal.returns

@@ -1,5 +1,5 @@
 use Rattle.clauses.specs.Contents.{held}
-use Rattle.clauses.specs.Listing.{listing_entered}
+use Rattle.clauses.proofs.Listing.{listing_entered}
 use Rattle.clauses.specs.Sealed.{text_clause}
 use Rattle.clauses.specs.SealedBooks.{texts}
 use Rattle.clauses.proofs.sealed.book.ContentBook+u8+512.enter.Goals as goal

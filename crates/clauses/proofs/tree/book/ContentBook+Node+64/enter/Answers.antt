@@ -2,7 +2,7 @@ use Rattle.std.proofs.Common.{Err, ap, ◌∙◌}
 use Rattle.std.proofs.lemmas.Result.{err_from_is_err_and}
 use Rattle.names.specs.Book.{texts}
 use Rattle.clauses.specs.Contents.{held}
-use Rattle.clauses.specs.Listing.{listing_entered}
+use Rattle.clauses.proofs.Listing.{listing_entered}
 use Rattle.clauses.specs.Nodes.{tree_clause}
 use Rattle.clauses.specs.TreeBooks.{trees}
 use Rattle.clauses.proofs.Entered.{entered, refused_by, numbered_by}
