@@ -14,7 +14,7 @@ use Rattle.policy_set.specs.Rows.{template_id}
 use Rattle.policy_set.specs.Maps.{Maps, template_at, in_force, bound}
 use Rattle.policy_set.specs.Maps.Thing.{template, policy}
 use Rattle.policy_set.specs.Sound.{Sound, member}
-use Rattle.policy_set.specs.Answers.{enter_answer, add_template_answer, add_static_answer, add_answer, link_answer, unlink_answer, remove_template_answer, static_parts, id_of, row_for, link_row, with_template, with_policy, with_or_inserted, without_policy, without_template, policy_last}
+use Rattle.policy_set.specs.Answers.{can_enter_answer, add_template_answer, add_static_answer, add_answer, link_answer, unlink_answer, remove_template_answer, static_parts, id_of, row_for, link_row, with_template, with_policy, with_or_inserted, without_policy, without_template, policy_last}
 use Rattle.policy_set.specs.Laws.{Adds, Removes, Grants, kept_record}
 use Rattle.policy_set.specs.Merge.{parts_equal, final, merged}
 use Rattle.policy_set.specs.MergeCall.{merge_outcome}
@@ -56,7 +56,7 @@ module _ {C : Type 0} (equal : C → C → Bool) (cs : List (Clause C)) (decides
   template_added_holds names t e so =
       let n = new_template names cs m t e in
       let a = template_adds m t h.sound n.template_free n.policy_free in
-      let k = accepted_then (template_known names cs t) _ tt (sym (accepted_then (enter_answer names cs m t) _ tt e).0) in
+      let k = accepted_then (template_known names cs t) _ tt (sym (accepted_then (can_enter_answer names cs m t) _ tt e).0) in
       record {
         sound = so;
         shows = shows_same (same_clause equal cs) m (with_template t m) tally h.shows (unchanged a);
@@ -83,7 +83,7 @@ module _ {C : Type 0} (equal : C → C → Bool) (cs : List (Clause C)) (decides
       let n = new_static names cs m t e in
       let own : Own t r = record { id = refl; template = refl; static = refl; slotless = p.slotless; values = refl } in
       let a = static_adds m t r own h.sound n.template_free n.policy_free in
-      let k = accepted_then (template_known names cs t) _ tt (sym (accepted_then (enter_answer names cs m t) _ tt e).0) in
+      let k = accepted_then (template_known names cs t) _ tt (sym (accepted_then (can_enter_answer names cs m t) _ tt e).0) in
       let known = clause_of_known names cs t k.0 in
       record {
         sound = so;

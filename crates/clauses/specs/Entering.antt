@@ -9,5 +9,5 @@ abbrev pub next_number : {C : Type 0} → List C → Result ℕ Refusal
 next_number held = cond (nat_lt (length held) 256) (Ok (length held)) (Err BookFull)
 
 -- What entering a sealed text answers: refusal 3 above 512 bytes, else the next number.
-abbrev pub text_answer : List (List ℕ) → List ℕ → Result ℕ Refusal
-text_answer texts text = and_then (length_check 512 text) (next_number texts)
+abbrev pub sealed_answer : List (List ℕ) → List ℕ → Result ℕ Refusal
+sealed_answer texts text = and_then (length_check 512 text) (next_number texts)

@@ -38,8 +38,8 @@ binding_answer count cs t link env =
     and_then (names_known count (parts_names t link env)) (and_then (clause_known cs t.clause) (bindable t.slots env))
 
 -- The link of a template, where these accept.
-abbrev pub link_answer : {C : Type 0} → ℕ → List (Clause C) → Template → ℕ → SlotEnv → Result Parts Refusal
-link_answer count cs t id env = and_then (binding_answer count cs t (Some id) env) (Ok (record { template = t; link = Some id; values = env }))
+abbrev pub template_link_answer : {C : Type 0} → ℕ → List (Clause C) → Template → ℕ → SlotEnv → Result Parts Refusal
+template_link_answer count cs t id env = and_then (binding_answer count cs t (Some id) env) (Ok (record { template = t; link = Some id; values = env }))
 
 -- Refusals 1 of the scope and of the value.
 abbrev pub fill_answer : ℕ → PrincipalOrResourceConstraint → Option EntityUID → Result PrincipalOrResourceConstraint Refusal

@@ -1,7 +1,7 @@
 ghost use Rattle.std.specs.Prelude.{◌≡◌, length, Some as Given, None, Ok as Accepted};
 ghost use Rattle.names.specs.Book.{texts};
 ghost use Rattle.policy.specs.Arity.{bindable as bindable_of, AcceptsExact, parts_of};
-ghost use Rattle.policy.specs.Calls.{binding_answer, link_answer};
+ghost use Rattle.policy.specs.Calls.{binding_answer, template_link_answer};
 ghost use Rattle.policy.specs.Known.{and_then};
 
 use crate::bound::Policy;
@@ -77,7 +77,7 @@ impl Template {
         names: &NameBook,
         clauses: &B,
     ) -> Result<Policy, Refusal>
-        ensures { parts_of result ≡ link_answer (length (texts names.now)) (B.ClauseBook.listed clauses.now) self.now new_id values }
+        ensures { parts_of result ≡ template_link_answer (length (texts names.now)) (B.ClauseBook.listed clauses.now) self.now new_id values }
     {
         self.tested_binding(Some(new_id), values, names.count(), clauses)?;
         linked(self, new_id, values)

@@ -15,7 +15,7 @@ use Rattle.policy.specs.declared.values.SlotEnv.{SlotEnv}
 use Rattle.policy_set.specs.Tables.{has_room}
 use Rattle.policy_set.specs.Maps.{Maps, template_at, row_at, passes, in_force, bound}
 use Rattle.policy_set.specs.Sound.{has_slots}
-use Rattle.policy_set.specs.Answers.{refuse_if, slots_cached, enter_answer, add_template_answer, add_static_answer, other_template, link_fits, id_of, add_answer, found_then, no_rows, reverse_set, linked_answer, link_answer, unlink_answer, remove_template_answer}
+use Rattle.policy_set.specs.Answers.{refuse_if, slots_cached, can_enter_answer, add_template_answer, add_static_answer, other_template, link_fits, id_of, add_answer, found_then, no_rows, reverse_set, linked_answer, link_answer, unlink_answer, remove_template_answer}
 use Rattle.policy_set.proofs.Lookups.{is_none}
 
 -- a test that accepted, and what came after it
@@ -50,7 +50,7 @@ cached_slots cs t e = eqb-true t.slots.bits (condition_slots cs t).bits (not-fal
 
 pub new_template : {C : Type 0} (names : ℕ) (cs : List (Clause C)) (m : Maps) (t : Template) → Ok tt ≡ add_template_answer names cs m t → NewTemplate cs m t
 new_template names cs m t e =
-    let h = accepted_then (enter_answer names cs m t) _ tt e in
+    let h = accepted_then (can_enter_answer names cs m t) _ tt e in
     let a = accepted_then (template_known names cs t) _ tt (sym h.0) in
     let b = accepted_then (slots_cached cs t) _ tt a.1 in
     let d = accepted_then (refuse_if (not (has_slots t)) (Slotless t.id)) _ tt h.1 in
@@ -73,7 +73,7 @@ pub record NewStatic {C : Type 0} (cs : List (Clause C)) (m : Maps) (t : Templat
 
 pub new_static : {C : Type 0} (names : ℕ) (cs : List (Clause C)) (m : Maps) (t : Template) → Ok tt ≡ add_static_answer names cs m t → NewStatic cs m t
 new_static names cs m t e =
-    let h = accepted_then (enter_answer names cs m t) _ tt e in
+    let h = accepted_then (can_enter_answer names cs m t) _ tt e in
     let a = accepted_then (template_known names cs t) _ tt (sym h.0) in
     let b = accepted_then (slots_cached cs t) _ tt a.1 in
     let d = accepted_then (refuse_if (not (has_room 64 m.templates)) (Full Templates)) _ tt h.1 in

@@ -11,7 +11,7 @@ use Rattle.policy_set.specs.Maps.{Maps, template_at, row_at, changed, whole, in_
 use Rattle.policy_set.specs.Sound.{Sound}
 use Rattle.policy_set.specs.Merge.{parts_equal, things_equal, final, origin, renamed_template, renamed_row, renamed_policy, merged}
 use Rattle.policy_set.specs.MergeLaw.{Chosen}
-use Rattle.policy_set.specs.Tally.{Account, Tally, held, grant, holds_equal, granted, granted_from, merge_tally, GrantsAfter, Agrees, Shows, AllFit}
+use Rattle.policy_set.specs.Tally.{Account, Tally, held, grant, holds_equal, merged_account, granted_from, merge_tally, GrantsAfter, Agrees, Shows, AllFit}
 use Rattle.policy_set.proofs.Holding.{Holds, Comparing, Idless, HoldsAfter}
 use Rattle.policy_set.proofs.Lookups.{no_some, some_same}
 use Rattle.policy_set.proofs.Sounds.{no_true}
@@ -98,8 +98,8 @@ module _ (same : ℕ → ℕ → Bool) (law : Comparing same) (live incoming : M
   at_some t m sh k r e = subst (Agrees same (t k)) (ap (changed (whole m)) e) (sh k)
 
   -- nothing comes in under k
-  quiet : (k i : ℕ) → row_at incoming i ≡ None → granted same f (tl k) (held (tl i)) (held (ti i)) ≡ tl k
-  quiet k i e = ap (granted same f (tl k) (held (tl i))) (held_none same (ti i) (at_none ti incoming shi i e))
+  quiet : (k i : ℕ) → row_at incoming i ≡ None → merged_account same f (tl k) (held (tl i)) (held (ti i)) ≡ tl k
+  quiet k i e = ap (merged_account same f (tl k) (held (tl i))) (held_none same (ti i) (at_none ti incoming shi i e))
 
   kept_tally : (k : ℕ) → Kept live incoming f back k → granted_from same f tl ti k (back k) ≡ tl k
   kept_tally k h = go (back k) refl
@@ -121,13 +121,13 @@ module _ (same : ℕ → ℕ → Bool) (law : Comparing same) (live incoming : M
   -- a policy is granted where the live set has no equal of it
   new : (k i : ℕ) → f i ≡ k → bound live (f i) ≡ false → things_equal same (named live i) (named incoming i) ≡ false
       → (o : Option PolicyRow) → row_at incoming i ≡ o
-      → Agrees same (granted same f (tl k) (held (tl i)) (held (ti i))) (changed (whole (merged f live incoming)) (changed (renamed_row f) o))
+      → Agrees same (merged_account same f (tl k) (held (tl i)) (held (ti i))) (changed (whole (merged f live incoming)) (changed (renamed_row f) o))
   new k i g bl ne None e = subst (λ (a : Account). Agrees same a None) (sym (quiet k i e)) (at_none tl live shl k (ap (row_at live) (sym g) ∙ (unbound live (f i) bl).1))
   new k i g bl ne (Some r) e =
       let ar = at_some ti incoming shi i r e in
       let w = incoming_whole same live incoming f back sl si mv i r e in
-      let z : granted same f (tl k) (held (tl i)) (held (ti i)) ≡ grant (tl k) (renamed_policy f (ti i).latest) =
-      ap (granted same f (tl k) (held (tl i))) (held_some same (ti i) (whole incoming r) ar)
+      let z : merged_account same f (tl k) (held (tl i)) (held (ti i)) ≡ grant (tl k) (renamed_policy f (ti i).latest) =
+      ap (merged_account same f (tl k) (held (tl i))) (held_some same (ti i) (whole incoming r) ar)
       ∙ ap (λ c. cond c (tl k) (grant (tl k) (renamed_policy f (ti i).latest))) (unequal (row_at live i) refl) in
       let y : Agrees same (grant (tl k) (renamed_policy f (ti i).latest)) (Some (renamed_policy f (whole incoming r))) =
       agrees_grant same (tl k) (renamed_policy f (whole incoming r)) (renamed_policy f (ti i).latest)
@@ -155,14 +155,14 @@ module _ (same : ℕ → ℕ → Bool) (law : Comparing same) (live incoming : M
   -- where both sets have equal policies nothing is granted
   equal_policies : (i : ℕ) → f i ≡ i → (r q : PolicyRow) → row_at live i ≡ Some r → row_at incoming i ≡ Some q
       → SamePolicy same (whole live r) (whole incoming q) → Alike same live incoming i
-      → Agrees same (granted same f (tl i) (held (tl i)) (held (ti i))) (changed (whole (merged f live incoming)) (changed (renamed_row f) (row_at incoming i)))
+      → Agrees same (merged_account same f (tl i) (held (tl i)) (held (ti i))) (changed (whole (merged f live incoming)) (changed (renamed_row f) (row_at incoming i)))
   equal_policies i fi r q d e c al =
       let hl = at_some tl live shl i r d in
       let hi = at_some ti incoming shi i q e in
       let s1 = policy_trans same law (tl i).latest (whole live r) (whole incoming q) (policy_sym same law (whole live r) (tl i).latest (latest_same same (tl i) (whole live r) hl)) c in
       let s2 = policy_trans same law (tl i).latest (whole incoming q) (ti i).latest s1 (latest_same same (ti i) (whole incoming q) hi) in
-      let z : granted same f (tl i) (held (tl i)) (held (ti i)) ≡ tl i =
-      ap (granted same f (tl i) (held (tl i))) (held_some same (ti i) (whole incoming q) hi)
+      let z : merged_account same f (tl i) (held (tl i)) (held (ti i)) ≡ tl i =
+      ap (merged_account same f (tl i) (held (tl i))) (held_some same (ti i) (whole incoming q) hi)
       ∙ (ap (λ (o : Option Parts). cond (holds_equal same (ti i).latest o) (tl i) (grant (tl i) (renamed_policy f (ti i).latest))) (held_some same (tl i) (whole live r) hl)
       ∙ ap (λ x. cond x (tl i) (grant (tl i) (renamed_policy f (ti i).latest))) (is_parts_equal same (tl i).latest (ti i).latest s2)) in
       let w = equal_renamed same live incoming f back sl si mv i fi r q e c al in
@@ -171,16 +171,16 @@ module _ (same : ℕ → ℕ → Bool) (law : Comparing same) (live incoming : M
       rw (z, e, incoming_whole same live incoming f back sl si mv i q e) y
 
   moved : (i : ℕ) → bound incoming i ≡ true
-      → Agrees same (granted same f (tl (f i)) (held (tl i)) (held (ti i))) (changed (whole (merged f live incoming)) (changed (renamed_row f) (row_at incoming i)))
+      → Agrees same (merged_account same f (tl (f i)) (held (tl i)) (held (ti i))) (changed (whole (merged f live incoming)) (changed (renamed_row f) (row_at incoming i)))
   moved i h = elim (mv.apart i h) [
     | inl u ↦ new (f i) i refl u.0 u.1 (row_at incoming i) refl
     | inr u ↦
-        subst (λ k. Agrees same (granted same f (tl k) (held (tl i)) (held (ti i))) (changed (whole (merged f live incoming)) (changed (renamed_row f) (row_at incoming i))))
+        subst (λ k. Agrees same (merged_account same f (tl k) (held (tl i)) (held (ti i))) (changed (whole (merged f live incoming)) (changed (renamed_row f) (row_at incoming i))))
         (sym u.0) (both u.0 (alike same live incoming sl si i u.1))
   ]
     where
       both : f i ≡ i → Alike same live incoming i
-          → Agrees same (granted same f (tl i) (held (tl i)) (held (ti i))) (changed (whole (merged f live incoming)) (changed (renamed_row f) (row_at incoming i)))
+          → Agrees same (merged_account same f (tl i) (held (tl i)) (held (ti i))) (changed (whole (merged f live incoming)) (changed (renamed_row f) (row_at incoming i)))
       both fi (two_templates s t p q u v c) = rw (quiet i i v, v) (at_none tl live shl i q)
       both fi (two_links r y p q u v c) = equal_policies i fi r y q v c (two_links r y p q u v c)
       both fi (two_statics s t r y p q u v c d) = equal_policies i fi r y q v d (two_statics s t r y p q u v c d)
@@ -188,8 +188,8 @@ module _ (same : ℕ → ℕ → Bool) (law : Comparing same) (live incoming : M
   from_agrees : (k i : ℕ) → From live incoming f k i → Agrees same (granted_from same f tl ti k (back k)) (in_force (merged f live incoming) k)
   from_agrees k i g =
       let b : back k ≡ Some i = subst (λ j. back j ≡ Some i) g.goes (mv.return i g.is_bound) in
-      let m : Agrees same (granted same f (tl k) (held (tl i)) (held (ti i))) (changed (whole (merged f live incoming)) (changed (renamed_row f) (row_at incoming i))) =
-      subst (λ j. Agrees same (granted same f (tl j) (held (tl i)) (held (ti i))) (changed (whole (merged f live incoming)) (changed (renamed_row f) (row_at incoming i)))) g.goes (moved i g.is_bound) in
+      let m : Agrees same (merged_account same f (tl k) (held (tl i)) (held (ti i))) (changed (whole (merged f live incoming)) (changed (renamed_row f) (row_at incoming i))) =
+      subst (λ j. Agrees same (merged_account same f (tl j) (held (tl i)) (held (ti i))) (changed (whole (merged f live incoming)) (changed (renamed_row f) (row_at incoming i)))) g.goes (moved i g.is_bound) in
       rw (b, g.rows) m
 
   shows_after : (k : ℕ) → Agrees same (granted_from same f tl ti k (back k)) (in_force (merged f live incoming) k)
@@ -234,14 +234,14 @@ module _ (same : ℕ → ℕ → Bool) (Fit : Template → Type 0) (live incomin
           → merge_tally same pairs tl ti (final pairs i) ≡ grant (tl (final pairs i)) (renamed_policy (final pairs) p)
       give i p e n =
           ap (granted_from same (final pairs) tl ti (final pairs i)) (mv.return i (there i p e))
-          ∙ (ap (granted same (final pairs) (tl (final pairs i)) (held (tl i))) e
+          ∙ (ap (merged_account same (final pairs) (tl (final pairs i)) (held (tl i))) e
           ∙ ap (λ c. cond c (tl (final pairs i)) (grant (tl (final pairs i)) (renamed_policy (final pairs) p))) n)
 
       rest : (k : ℕ) → ((i : ℕ) (p : Parts) → final pairs i ≡ k → held (ti i) ≡ Some p → holds_equal same p (held (tl i)) ≡ true)
           → merge_tally same pairs tl ti k ≡ tl k
       rest k n = go (origin pairs k) refl
         where
-          one : (i : ℕ) (o : Option Parts) → final pairs i ≡ k → held (ti i) ≡ o → granted same (final pairs) (tl k) (held (tl i)) o ≡ tl k
+          one : (i : ℕ) (o : Option Parts) → final pairs i ≡ k → held (ti i) ≡ o → merged_account same (final pairs) (tl k) (held (tl i)) o ≡ tl k
           one i None g e = refl
           one i (Some p) g e = ap (λ c. cond c (tl k) (grant (tl k) (renamed_policy (final pairs) p))) (n i p g e)
 

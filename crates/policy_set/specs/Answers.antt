@@ -67,13 +67,13 @@ abbrev pub slots_cached : {C : Type 0} → List (Clause C) → Template → Resu
 slots_cached cs t = refuse_if (not (t.slots.bits == (condition_slots cs t).bits)) (SlotCacheMismatch t.id)
 
 -- What a template and a static body are refused for alike: 1 and 2, 9 and 10.
-abbrev pub enter_answer : {C : Type 0} → ℕ → List (Clause C) → Maps → Template → Result (Unit {0}) Refusal
-enter_answer count cs m t = and_then (template_known count cs t) (and_then (slots_cached cs t) (refuse_if (bound m t.id) (Occupied t.id)))
+abbrev pub can_enter_answer : {C : Type 0} → ℕ → List (Clause C) → Maps → Template → Result (Unit {0}) Refusal
+can_enter_answer count cs m t = and_then (template_known count cs t) (and_then (slots_cached cs t) (refuse_if (bound m t.id) (Occupied t.id)))
 
 -- `add_template`: 1 and 2, 9, 10, 25 and 27.
 abbrev pub add_template_answer : {C : Type 0} → ℕ → List (Clause C) → Maps → Template → Result (Unit {0}) Refusal
 add_template_answer count cs m t =
-    and_then (enter_answer count cs m t)
+    and_then (can_enter_answer count cs m t)
     (and_then (refuse_if (not (has_slots t)) (Slotless t.id))
     (refuse_if (not (has_room 64 m.templates)) (Full Templates)))
 
@@ -96,7 +96,7 @@ with_policy r m = record {
 -- `add_static`: 1 and 2, 9, 10 and 27.
 abbrev pub add_static_answer : {C : Type 0} → ℕ → List (Clause C) → Maps → Template → Result (Unit {0}) Refusal
 add_static_answer count cs m t =
-    and_then (enter_answer count cs m t)
+    and_then (can_enter_answer count cs m t)
     (and_then (refuse_if (not (has_room 64 m.templates)) (Full Templates))
     (refuse_if (not (has_room 256 m.policies)) (Full Policies)))
 

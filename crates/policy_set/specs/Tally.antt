@@ -30,14 +30,14 @@ abbrev pub holds_equal : (ℕ → ℕ → Bool) → Parts → Option Parts → B
 holds_equal same p o = passes (λ q. parts_equal same q p) o
 
 -- The account after a merge that brings in what may be held, where the live tally holds `mine` under the incoming id.
-abbrev pub granted : (ℕ → ℕ → Bool) → (ℕ → ℕ) → Account → Option Parts → Option Parts → Account
-granted same f a mine None = a
-granted same f a mine (Some p) = cond (holds_equal same p mine) a (grant a (renamed_policy f p))
+abbrev pub merged_account : (ℕ → ℕ → Bool) → (ℕ → ℕ) → Account → Option Parts → Option Parts → Account
+merged_account same f a mine None = a
+merged_account same f a mine (Some p) = cond (holds_equal same p mine) a (grant a (renamed_policy f p))
 
 -- The account of a final id k after a merge, where i is the incoming id that it comes from, if any.
 abbrev pub granted_from : (ℕ → ℕ → Bool) → (ℕ → ℕ) → Tally → Tally → ℕ → Option ℕ → Account
 granted_from same f live incoming k None = live k
-granted_from same f live incoming k (Some i) = granted same f (live k) (held (live i)) (held (incoming i))
+granted_from same f live incoming k (Some i) = merged_account same f (live k) (held (live i)) (held (incoming i))
 
 -- The live tally after a merge: under each final id, what the incoming tally holds under the id that it comes from is granted,
 -- unless the live tally holds an equal of it under that id.

@@ -1,6 +1,6 @@
 ghost use Rattle.std.specs.Prelude.{◌≡◌, refl};
 ghost use Rattle.std.specs.Str.{bytes_eq};
-ghost use Rattle.clauses.specs.Entering.{text_answer};
+ghost use Rattle.clauses.specs.Entering.{sealed_answer};
 ghost use Rattle.names.specs.Names.{with_entered};
 ghost use Rattle.clauses.specs.Sealed.{text_clause};
 ghost use Rattle.clauses.specs.SealedBooks.{texts as texts_of, sealed_clauses};
@@ -42,7 +42,7 @@ impl Content for u8 {
 impl ContentBook<u8, 512> {
     // Enters a text under the next number.
     pub fn enter(&mut self, text: &[u8]) -> Result<u16, Refusal>
-        ensures answer { result ≡ text_answer (texts_of self.old) text.now }
+        ensures answer { result ≡ sealed_answer (texts_of self.old) text.now }
         ensures texts { texts_of self.new ≡ with_entered result (texts_of self.old) text.now }
         ensures clauses { sealed_clauses self.new ≡ with_entered result (sealed_clauses self.old) (text_clause text.now) }
     {

@@ -1,7 +1,7 @@
 // Adding templates and policies.
 ghost use Rattle.std.specs.Prelude.{◌≡◌, length};
 ghost use Rattle.names.specs.Book.{texts};
-ghost use Rattle.policy_set.specs.Answers.{slots_cached, enter_answer, add_template_answer, add_template_after, add_static_answer, add_static_after};
+ghost use Rattle.policy_set.specs.Answers.{slots_cached, can_enter_answer, add_template_answer, add_template_after, add_static_answer, add_static_after};
 ghost use Rattle.policy_set.specs.Laws.{TemplateAddition, StaticAddition};
 ghost use Rattle.policy_set.specs.Meaning.{maps_of};
 
@@ -34,7 +34,7 @@ impl PolicySet {
         names: &NameBook,
         clauses: &B,
     ) -> Result<(), Refusal>
-        ensures { result ≡ enter_answer (length (texts names.now)) (B.ClauseBook.listed clauses.now) (maps_of self.now) t.now }
+        ensures { result ≡ can_enter_answer (length (texts names.now)) (B.ClauseBook.listed clauses.now) (maps_of self.now) t.now }
     {
         known_template(t, names.count(), clauses)?;
         cached_slots(t, clauses)?;

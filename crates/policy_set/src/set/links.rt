@@ -20,7 +20,7 @@ use refusals::NameNumber;
 use refusals::refusal::{Refusal, Table};
 
 // Refusal 1 of the names that `link` is given.
-fn known_link(
+fn known_link_names(
     names: &NameBook,
     template: NameNumber,
     new: NameNumber,
@@ -66,7 +66,7 @@ impl PolicySet {
     ) -> Result<Policy, Refusal>
         ensures { parts_of result ≡ link_answer (length (texts names.now)) (maps_of self.now) template_id new_id values }
     {
-        known_link(names, template_id, new_id, values)?;
+        known_link_names(names, template_id, new_id, values)?;
         let found = self.template(template_id);
         let template = found.ok_or(Refusal::NoSuchTemplate(template_id))?;
         self.linked(&template, new_id, values)
