@@ -9,26 +9,6 @@ if [[ $# -lt 2 || $# -gt 3 ]]; then
     exit 2
 fi
 here=$(cd "$(dirname "${BASH_SOURCE[0]}")" && pwd)
-mkdir -p "$2"
-out=$(cd "$2" && pwd)
-for file in policy_set policy annotation; do
-    cp "$1/src/ast/$file.rs" "$out/$file.rs"
-    chmod u+w "$out/$file.rs"
-done
-# Where the test module was cut off, its last attribute hangs in the air; a whole file ends otherwise.
-sed -i '${/^#\[expect(clippy::panic, clippy::indexing_slicing, reason = "tests")\]$/d}' "$out/policy_set.rs"
-map=$here/standins/linked_hash_map.rs
-edition=2021
-if [[ $# -eq 3 ]]; then
-    map=$3
-    edition=2015
-fi
-
-cd "$out"
-compile() {
-    rustc -O -C debug-assertions=on -L "$out" --cap-lints allow "$@"
-}
-compile --edition $edition --crate-name linked_hash_map --crate-type rlib "$map"
-compile --edition 2021 --crate-name standin_macros --crate-type proc-macro "$here/standins/macros.rs"
-compile --edition 2021 --crate-name standins --crate-type rlib "$here/standins/crates.rs"
+flags=(-O -C debug-assertions=on)
+source "$here/standins/build.sh" "$@"
 COMPARE_SOURCES="$out" compile --edition 2021 --crate-name driver -o "$out/driver" "$here/driver/main.rs"
