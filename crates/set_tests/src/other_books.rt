@@ -1,74 +1,13 @@
-use clauses::sealed::book::SealedBook;
+use crate::samples::{ANY, Books, SLOT, filled, principal, template};
 use names::entity::EntityUID;
-use names::kept::NameBook;
 use policy::bound::Policy;
-use policy::constraint::{Effect, EntityReference, PrincipalOrResourceConstraint};
+use policy::constraint::{EntityReference, PrincipalOrResourceConstraint};
 use policy::fixed::StaticPolicy;
-use policy::scope::ActionScope;
 use policy::template::Template;
-use policy::values::SlotEnv;
 use policy_set::rows::Renaming;
 use policy_set::set::PolicySet;
-use refusals::NameNumber;
 use refusals::refusal::Refusal;
-use std::alloc::Global;
 use std::test::Fail;
-
-// A name book and a clause book.
-#[derive(Drop)]
-struct Books {
-    names: NameBook,
-    clauses: SealedBook,
-}
-
-// Books with these texts and clauses.
-fn filled(heap: Global, texts: &[&[u8]], clauses: &[&[u8]]) -> Result<Books, Fail> {
-    let mut names = NameBook::new(heap, 16, 256)?;
-    for text in texts {
-        let _ = names.name(text)?;
-    }
-    let mut book = SealedBook::new(heap)?;
-    for clause in clauses {
-        let _ = book.enter(clause)?;
-    }
-    Ok(Books {
-        names,
-        clauses: book,
-    })
-}
-
-// A template under an id, all any but the principal.
-fn template(
-    books: &Books,
-    id: NameNumber,
-    principal: PrincipalOrResourceConstraint,
-    clause: Option<u16>,
-) -> Result<Template, Refusal> {
-    Template::new(
-        id,
-        Effect::Permit,
-        principal,
-        ActionScope::Any,
-        ANY,
-        clause,
-        &books.names,
-        &books.clauses,
-    )
-}
-
-const SLOT: PrincipalOrResourceConstraint = PrincipalOrResourceConstraint::Eq(
-    EntityReference::Slot,
-);
-
-const ANY: PrincipalOrResourceConstraint = PrincipalOrResourceConstraint::Any;
-
-// The values of a principal alone.
-fn principal(e: EntityUID) -> SlotEnv {
-    SlotEnv {
-        principal: Some(e),
-        resource: None,
-    }
-}
 
 // A template, a static policy and a link of the template, each with the first clause.
 fn records(home: &Books) -> Result<(Template, StaticPolicy, Policy), Refusal> {
