@@ -10,6 +10,7 @@ mod report;
 mod rng;
 mod stop;
 mod timing;
+mod turns;
 mod unit;
 mod units;
 

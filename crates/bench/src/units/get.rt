@@ -2,6 +2,7 @@ use crate::books::{Books, CLAUSE};
 use crate::full_set::{FULL, full_set};
 use crate::rng::Rng;
 use crate::stop::Stop;
+use crate::turns::Turns;
 use crate::unit::Unit;
 use policy::bound::Policy;
 use policy_set::set::PolicySet;
@@ -13,8 +14,7 @@ use std::alloc::Global;
 pub struct Get {
     books: Books,
     set: PolicySet,
-    ids: [NameNumber; 256],
-    turn: usize,
+    ids: Turns<NameNumber, 256>,
     found: Option<Policy>,
 }
 
@@ -34,12 +34,11 @@ impl Get {
         let mut books = Books::new(heap)?;
         let clause = books.clauses.enter(CLAUSE)?;
         let set = full_set(&mut books, FULL, clause)?;
-        let ids = ids(&set)?;
+        let ids = Turns::new(ids(&set)?);
         Ok(Get {
             books,
             set,
             ids,
-            turn: 0,
             found: None,
         })
     }
@@ -50,9 +49,7 @@ impl Unit for Get {
 
     // The policy is kept, so that no build can leave out handing it over.
     fn work(&mut self) -> Result<usize, Stop> {
-        let k = self.turn % 256;
-        self.turn = k + 1;
-        let id = self.ids[k];
+        let id = self.ids.next();
         self.found = self.set.get(id, &self.books.names)?;
         Ok(id as usize)
     }

@@ -2,6 +2,7 @@ use crate::books::{Books, CLAUSE};
 use crate::full_set::{Size, full_set};
 use crate::rng::Rng;
 use crate::stop::Stop;
+use crate::turns::Turns;
 use crate::unit::Unit;
 use policy::bound::Policy;
 use policy::values::SlotEnv;
@@ -29,8 +30,7 @@ struct Link {
 pub struct LinkUnlink {
     books: Books,
     set: PolicySet,
-    links: [Link; 16],
-    turn: usize,
+    links: Turns<Link, 16>,
     linked: Option<Policy>,
     unlinked: Option<Policy>,
 }
@@ -62,12 +62,11 @@ impl LinkUnlink {
         let mut books = Books::new(heap)?;
         let clause = books.clauses.enter(CLAUSE)?;
         let set = full_set(&mut books, ROOM_FOR_ONE, clause)?;
-        let links = links(&mut books, &set)?;
+        let links = Turns::new(links(&mut books, &set)?);
         Ok(LinkUnlink {
             books,
             set,
             links,
-            turn: 0,
             linked: None,
             unlinked: None,
         })
@@ -79,13 +78,11 @@ impl Unit for LinkUnlink {
 
     // Both policies are kept, so that no build can leave out handing them over.
     fn work(&mut self) -> Result<usize, Stop> {
-        let k = self.turn % 16;
-        self.turn = k + 1;
         let Link {
             template,
             id,
             values,
-        } = self.links[k];
+        } = self.links.next();
         let names = &self.books.names;
         self.linked = Some(self.set.link(template, id, values, names)?);
         self.unlinked = Some(self.set.unlink(id, names)?);
