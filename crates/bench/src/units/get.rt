@@ -1,3 +1,11 @@
+ghost use Rattle.std.specs.Prelude.{◌≡◌, length, Ok, IfOk};
+ghost use Rattle.names.specs.Book.{texts};
+ghost use Rattle.policy.specs.Arity.{parts};
+ghost use Rattle.policy_set.specs.Answers.{get_answer};
+ghost use Rattle.policy_set.specs.Maps.{changed};
+ghost use Rattle.policy_set.specs.Meaning.{maps_of};
+ghost use Rattle.bench.specs.Turns.{IsAt};
+
 use crate::books::{Books, CLAUSE};
 use crate::full_set::{FULL, full_set};
 use crate::rng::Rng;
@@ -42,6 +50,16 @@ impl Get {
             found: None,
         })
     }
+
+    // Asks for the policy of the id whose turn it is; the id.
+    fn ask(&mut self) -> Result<NameNumber, Stop>
+        ensures asked { IfOk result (λ id. IsAt self.old.ids.things self.old.ids.turn id) }
+        ensures found { IfOk result (λ id. Ok (changed parts self.new.found) ≡ get_answer (length (texts self.old.books.names)) (maps_of self.old.set) id) }
+    {
+        let id = self.ids.next();
+        self.found = self.set.get(id, &self.books.names)?;
+        Ok(id)
+    }
 }
 
 impl Unit for Get {
@@ -49,8 +67,6 @@ impl Unit for Get {
 
     // The policy is kept, so that no build can leave out handing it over.
     fn work(&mut self) -> Result<usize, Stop> {
-        let id = self.ids.next();
-        self.found = self.set.get(id, &self.books.names)?;
-        Ok(id as usize)
+        Ok(self.ask()? as usize)
     }
 }
