@@ -1,3 +1,9 @@
+ghost use Rattle.std.specs.Prelude.{◌≡◌, length, Ok, IfOk, IsSomeAnd};
+ghost use Rattle.names.specs.Book.{texts};
+ghost use Rattle.policy.specs.Arity.{parts};
+ghost use Rattle.policy_set.specs.Answers.{link_answer, link_after, unlink_after};
+ghost use Rattle.policy_set.specs.Meaning.{maps_of};
+
 use crate::books::{Books, CLAUSE};
 use crate::full_set::{Size, full_set};
 use crate::rng::Rng;
@@ -73,19 +79,26 @@ impl LinkUnlink {
     }
 }
 
+impl LinkUnlink {
+    // Makes a link and removes it again.
+    fn link_and_unlink(&mut self, link: Link) -> Result<(), Stop>
+        ensures linked { IfOk result (λ _. IsSomeAnd self.new.linked (λ policy. Ok (parts policy) ≡ link_answer (length (texts self.old.books.names)) (maps_of self.old.set) link.template link.id link.values)) }
+        ensures after { IfOk result (λ _. maps_of self.new.set ≡ unlink_after (length (texts self.old.books.names)) (link_after (length (texts self.old.books.names)) (maps_of self.old.set) link.template link.id link.values) link.id) }
+    {
+        let names = &self.books.names;
+        self.linked = Some(self.set.link(link.template, link.id, link.values, names)?);
+        self.unlinked = Some(self.set.unlink(link.id, names)?);
+        Ok(())
+    }
+}
+
 impl Unit for LinkUnlink {
     const NAME: &'static str = "link_unlink_full";
 
     // Both policies are kept, so that no build can leave out handing them over.
     fn work(&mut self) -> Result<usize, Stop> {
-        let Link {
-            template,
-            id,
-            values,
-        } = self.links.next();
-        let names = &self.books.names;
-        self.linked = Some(self.set.link(template, id, values, names)?);
-        self.unlinked = Some(self.set.unlink(id, names)?);
-        Ok(id as usize)
+        let link = self.links.next();
+        self.link_and_unlink(link)?;
+        Ok(link.id as usize)
     }
 }
