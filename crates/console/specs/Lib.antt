@@ -1,3 +1,4 @@
 pub mod Reading
 pub mod Line
 pub mod Naming
+pub mod Reader
