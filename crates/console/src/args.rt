@@ -1,8 +1,10 @@
-ghost use Rattle.std.specs.Prelude.{◌≡◌, [], vec_items, MatchResult, ◌≢◌, ◌≤◌, IfOk};
+ghost use Rattle.std.specs.Prelude.{◌≡◌, [], vec_items, MatchResult, ◌≢◌, ◌≤◌, IfOk, is_some};
 ghost use Rattle.std.specs.Iterator.{YieldsFirstRef, item_count};
 ghost use Rattle.std.specs.Option.{option_map};
 ghost use Rattle.std.specs.Result.{result_ok};
 ghost use Rattle.script.specs.Words.{words as words_of};
+ghost use Rattle.script.specs.Number.{numeral};
+ghost use Rattle.console.specs.Room.{room};
 ghost use Rattle.console.specs.Reading.{left, rest, next_word, next_text, next_number, Reads};
 
 use crate::stop::{Stop, Wrong};
@@ -82,7 +84,8 @@ impl<'a> Args<'a> {
 
     // How many places the caller's buffer has, to the end of the line: without a word, or with more, as many as can be needed.
     pub fn room(&mut self, most: u32) -> Result<usize, Wrong>
-        ensures { IfOk result (λ room. room ≤ most) }
+        ensures room { result_ok result ≡ room most (left self.old) }
+        ensures most { IfOk result (λ room. room ≤ most) }
     {
         let Some(word) = self.next() else {
             return Ok(most as usize);
@@ -97,6 +100,8 @@ impl<'a> Args<'a> {
 }
 
 // Whether a word is a number, however large.
-fn is_numeral(word: &[u8]) -> bool {
+fn is_numeral(word: &[u8]) -> bool
+    ensures { result ≡ is_some (numeral word.now) }
+{
     !word.is_empty() && word.iter().all(|byte| byte.is_ascii_digit())
 }

@@ -1,7 +1,13 @@
 ghost use Rattle.std.specs.Prelude.{◌≡◌};
+ghost use Rattle.std.specs.Result.{result_ok};
+ghost use Rattle.names.specs.Book.{texts as texts_of};
 ghost use Rattle.names.specs.Book.{limits as limits_of};
 ghost use Rattle.calls.specs.Model.{told, answered, step};
 ghost use Rattle.calls.specs.Meaning.{state_of};
+ghost use Rattle.console.specs.Reader.{ReadsInto};
+ghost use Rattle.console.specs.Reading.{left};
+ghost use Rattle.console.specs.SetCalls.{link as link_meant, merge as merge_meant};
+ghost use Rattle.console.specs.SetWords.{change_word, set_word, renames_meant};
 
 // Lines on sets: those that change a set are read into calls, which are made and answered.
 use crate::args::Args;
@@ -42,7 +48,9 @@ pub enum SetWord {
 
 impl Change {
     // How a line's first word changes a set; none where it changes none.
-    fn of(head: &[u8]) -> Option<Change> {
+    fn of(head: &[u8]) -> Option<Change>
+        ensures { result ≡ change_word head.now }
+    {
         match head {
             b"template" => Some(Change::Template),
             b"static" => Some(Change::Static),
@@ -59,7 +67,9 @@ impl Change {
 
 impl SetWord {
     // What a line's first word does with a set; none where it is no call on sets.
-    pub(crate) fn of(head: &[u8]) -> Option<SetWord> {
+    pub(crate) fn of(head: &[u8]) -> Option<SetWord>
+        ensures { result ≡ set_word head.now }
+    {
         match Change::of(head) {
             Some(change) => Some(SetWord::Change(change)),
             None => Read::of(head).map(|read| SetWord::Read(read)),
@@ -115,7 +125,10 @@ impl Reader<'_> {
     }
 
     // TEMPLATEID ID PV RV
-    fn link(&mut self, side: Side, args: &mut Args) -> Result<Call<'static>, Stop> {
+    fn link(&mut self, side: Side, args: &mut Args) -> Result<Call<'static>, Stop>
+        ensures call { ReadsInto result (texts_of self.new.book.now) (link_meant (limits_of self.old.book.now) (texts_of self.old.book.now) side (left args.old)) }
+        ensures limits { limits_of self.new.book.now ≡ limits_of self.old.book.now }
+    {
         let template = self.id(args)?;
         let id = self.id(args)?;
         let values = self.values(args)?;
@@ -163,16 +176,25 @@ impl Reader<'_> {
     }
 }
 
+// `rename` or `refuse`: whether a merge may rename
+fn renames(word: &[u8]) -> Option<bool>
+    ensures { result ≡ renames_meant word.now }
+{
+    match word {
+        b"rename" => Some(true),
+        b"refuse" => Some(false),
+        _ => None,
+    }
+}
+
 // FROM rename|refuse [ROOM], the other set merged into this one
-fn merge(into: Side, args: &mut Args) -> Result<Call<'static>, Wrong> {
+fn merge(into: Side, args: &mut Args) -> Result<Call<'static>, Wrong>
+    ensures { result_ok result ≡ merge_meant into (left args.old) }
+{
     match (into, side(args.word()?)?) {
         (Side::A, Side::B) | (Side::B, Side::A) => (),
         _ => return Err(Wrong::SameSet),
     }
-    let rename = match args.word()? {
-        b"rename" => true,
-        b"refuse" => false,
-        _ => return Err(Wrong::BadMerge),
-    };
+    let rename = renames(args.word()?).ok_or(Wrong::BadMerge)?;
     Ok(Call::Merge(into, rename, args.room(MOST as u32)?))
 }

@@ -1,3 +1,6 @@
+ghost use Rattle.std.specs.Prelude.{◌≡◌};
+ghost use Rattle.console.specs.SetWords.{read_word};
+
 // Lines that read a set.
 use crate::args::Args;
 use crate::dump::dump;
@@ -29,7 +32,9 @@ pub enum Read {
 
 impl Read {
     // What a line's first word reads; none where it reads no set.
-    pub(crate) fn of(head: &[u8]) -> Option<Read> {
+    pub(crate) fn of(head: &[u8]) -> Option<Read>
+        ensures { result ≡ read_word head.now }
+    {
         match head {
             b"policies" => Some(Read::Policies),
             b"static_policies" => Some(Read::StaticPolicies),
