@@ -1,1 +1,3 @@
 mod Spelling
+mod Commas
+mod EachRead

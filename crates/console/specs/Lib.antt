@@ -1,5 +1,7 @@
+pub mod Actions
 pub mod Line
 pub mod Naming
+pub mod Nodes
 pub mod Reader
 pub mod Reading
 pub mod Room

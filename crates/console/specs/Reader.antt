@@ -27,12 +27,17 @@ pub data Reading (X : Type 0) : Type 0 where
   wrong : List (List ℕ) → Reading X
   refused : Refusal → List (List ℕ) → Reading X
 
--- What the reader answers, with the texts of its book then, is what was to be read; there may also be too little memory.
+-- What the reader answers, with the texts of its book then, is what was to be read, by a view of it; there may also be too
+-- little memory.
+abbrev pub ReadsAs : {X Y : Type 0} → (X → Y) → Result X Stop → List (List ℕ) → Reading Y → Type 0
+ReadsAs view (Ok x) texts meant = meant ≡ given (view x) texts
+ReadsAs view (Err (Wrong w)) texts meant = meant ≡ wrong texts
+ReadsAs view (Err (Refused refusal)) texts meant = meant ≡ refused refusal texts
+ReadsAs view (Err NoMemory) texts meant = Unit {0}
+
+-- The same, of what was read as it is.
 abbrev pub ReadsInto : {X : Type 0} → Result X Stop → List (List ℕ) → Reading X → Type 0
-ReadsInto (Ok x) texts meant = meant ≡ given x texts
-ReadsInto (Err (Wrong w)) texts meant = meant ≡ wrong texts
-ReadsInto (Err (Refused refusal)) texts meant = meant ≡ refused refusal texts
-ReadsInto (Err NoMemory) texts meant = Unit {0}
+ReadsInto result texts meant = ReadsAs (λ x. x) result texts meant
 
 -- One reading after another.
 abbrev pub next : {X Y : Type 0} → Reading X → (X → List (List ℕ) → Reading Y) → Reading Y
@@ -59,6 +64,20 @@ numbered (Err refusal) texts = refused refusal texts
 -- The number of the text that a word means.
 abbrev pub name : Limits → List (List ℕ) → List ℕ → Reading ℕ
 name limits texts word = if_some (decoded word) texts (λ text. numbered (name_answer limits texts text) (name_after limits texts text))
+
+-- What each of some words reads as, one after another.
+abbrev pub each : {X : Type 0} → (List (List ℕ) → List ℕ → Reading X) → List (List ℕ) → List (List ℕ) → Reading (List X)
+each read texts [] = given [] texts
+each read texts (word ∷ words) = next (read texts word) (λ x after. made (λ xs. x ∷ xs) (each read after words))
+
+-- What stands behind a word's beginning, where it begins so.
+abbrev pub stripped : List ℕ → List ℕ → Option (List ℕ)
+stripped start word = cond (bytes_eq (take (length start) word) start) (Some (drop (length start) word)) None
+
+-- What is read from what was found, or else another reading.
+abbrev pub if_found : {X : Type 0} → Option (List ℕ) → (List ℕ → Reading X) → Reading X → Reading X
+if_found None read other = other
+if_found (Some word) read other = read word
 
 -- The id that is the next word.
 abbrev pub id : Limits → List (List ℕ) → List (List ℕ) → Reading ℕ

@@ -1,9 +1,15 @@
+ghost use Rattle.std.specs.Prelude.{◌≡◌, vec_items};
+ghost use Rattle.names.specs.Book.{texts as texts_of, limits as limits_of};
+ghost use Rattle.console.specs.Actions.{entities as entities_meant, action_read as action_meant, listed};
+ghost use Rattle.console.specs.Reader.{ReadsAs};
+
 // The action scope of a line.
 use crate::reader::Reader;
 use crate::stop::{Stop, Wrong};
 use names::entity::EntityUID;
 use policy::action::ActionIn;
 use policy::scope::ActionScope;
+use script::parts::split_once;
 
 // An action scope as it is written: a list may have any length.
 pub type ActionWord = ActionIn<Vec<EntityUID>>;
@@ -19,19 +25,28 @@ pub(crate) fn lent(action: &ActionWord) -> ActionScope<'_> {
 
 impl Reader<'_> {
     // ENTITY,ENTITY,... and nothing for the empty list
-    fn entities(&mut self, word: &[u8]) -> Result<Vec<EntityUID>, Stop> {
+    fn entities(&mut self, word: &[u8]) -> Result<Vec<EntityUID>, Stop>
+        ensures entities { ReadsAs vec_items result (texts_of self.new.book.now) (entities_meant (limits_of self.old.book.now) (texts_of self.old.book.now) word.now) }
+        ensures limits { limits_of self.new.book.now ≡ limits_of self.old.book.now }
+    {
         let mut list = Vec::new(self.heap);
         if word.is_empty() {
             return Ok(list);
         }
-        for part in word.split(|byte| *byte == b',') {
+        let mut rest = word;
+        while let Some((part, behind)) = split_once(rest, b',') {
             list.push(self.entity(part)?)?;
+            rest = behind;
         }
+        list.push(self.entity(rest)?)?;
         Ok(list)
     }
 
     // any, eq:ENTITY, in:[ENTITY,ENTITY,...]
-    pub(crate) fn action(&mut self, word: &[u8]) -> Result<ActionWord, Stop> {
+    pub(crate) fn action(&mut self, word: &[u8]) -> Result<ActionWord, Stop>
+        ensures action { ReadsAs listed result (texts_of self.new.book.now) (action_meant (limits_of self.old.book.now) (texts_of self.old.book.now) word.now) }
+        ensures limits { limits_of self.new.book.now ≡ limits_of self.old.book.now }
+    {
         if word == b"any".as_slice() {
             return Ok(ActionIn::Any);
         }

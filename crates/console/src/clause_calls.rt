@@ -1,3 +1,9 @@
+ghost use Rattle.std.specs.Prelude.{◌≡◌, vec_items};
+ghost use Rattle.names.specs.Book.{texts as texts_of, limits as limits_of};
+ghost use Rattle.console.specs.Nodes.{plain_node as plain_node_meant, node_of, nodes as nodes_meant};
+ghost use Rattle.console.specs.Reader.{ReadsInto, ReadsAs};
+ghost use Rattle.console.specs.Reading.{left};
+
 // Lines that enter clauses: sealed texts or trees, never both.
 use crate::args::Args;
 use crate::reader::{Reader, side};
@@ -28,34 +34,47 @@ pub struct Clauses {
     closed: bool,
 }
 
+// The node that a word is by itself: the words are the console's format and not the library's, so they are no `TryFrom` of `Node`
+fn plain_node(word: &[u8]) -> Option<Node>
+    ensures { result ≡ plain_node_meant word.now }
+{
+    Some(match word {
+        b"true" => Node::Lit(true),
+        b"false" => Node::Lit(false),
+        b"principal" => Node::Var(Var::Principal),
+        b"action" => Node::Var(Var::Action),
+        b"resource" => Node::Var(Var::Resource),
+        b"?principal" => Node::Slot(SlotId::Principal),
+        b"?resource" => Node::Slot(SlotId::Resource),
+        b"not" => Node::Not,
+        b"and" => Node::And,
+        b"or" => Node::Or,
+        b"eq" => Node::Eq,
+        b"in" => Node::In,
+        _ => return None,
+    })
+}
+
 impl Reader<'_> {
     // A node of a tree line.
-    fn node(&mut self, word: &[u8]) -> Result<Node, Stop> {
+    fn node(&mut self, word: &[u8]) -> Result<Node, Stop>
+        ensures node { ReadsInto result (texts_of self.new.book.now) (node_of (limits_of self.old.book.now) (texts_of self.old.book.now) word.now) }
+        ensures limits { limits_of self.new.book.now ≡ limits_of self.old.book.now }
+    {
         if let Some(rest) = word.strip_prefix(b"entity:") {
             return Ok(Node::Entity(self.entity(rest)?));
         }
         if let Some(rest) = word.strip_prefix(b"is:") {
             return Ok(Node::Is(self.name(rest)?));
         }
-        Ok(match word {
-            b"true" => Node::Lit(true),
-            b"false" => Node::Lit(false),
-            b"principal" => Node::Var(Var::Principal),
-            b"action" => Node::Var(Var::Action),
-            b"resource" => Node::Var(Var::Resource),
-            b"?principal" => Node::Slot(SlotId::Principal),
-            b"?resource" => Node::Slot(SlotId::Resource),
-            b"not" => Node::Not,
-            b"and" => Node::And,
-            b"or" => Node::Or,
-            b"eq" => Node::Eq,
-            b"in" => Node::In,
-            _ => return Err(Wrong::BadNode.into()),
-        })
+        Ok(plain_node(word).ok_or(Wrong::BadNode)?)
     }
 
     // All nodes of a tree line.
-    fn nodes(&mut self, args: &mut Args) -> Result<Vec<Node>, Stop> {
+    fn nodes(&mut self, args: &mut Args) -> Result<Vec<Node>, Stop>
+        ensures nodes { ReadsAs vec_items result (texts_of self.new.book.now) (nodes_meant (limits_of self.old.book.now) (texts_of self.old.book.now) (left args.old)) }
+        ensures limits { limits_of self.new.book.now ≡ limits_of self.old.book.now }
+    {
         let mut list = Vec::new(self.heap);
         for word in args {
             list.push(self.node(word)?)?;

@@ -94,6 +94,8 @@ impl From<AllocError> for Stop {
 }
 
 impl<T: Drop> From<AllocFailed<T>> for Stop {
+    ghost from_gives = { λ _ r. r ≡ Exhausted };
+
     fn from(_: AllocFailed<T>) -> Stop {
         Stop::NoMemory
     }

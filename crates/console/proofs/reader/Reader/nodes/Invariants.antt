@@ -1,0 +1,14 @@
+use Rattle.std.proofs.Common.{◌≡◌, vec_items}
+use Rattle.names.specs.Book.{texts as texts_of}
+use Rattle.names.specs.Book.{limits as limits_of}
+use Rattle.console.specs.Nodes.{node_of, nodes}
+use Rattle.console.specs.Reading.{left}
+use Rattle.console.proofs.EachRead.{Under}
+use Rattle.console.proofs.reader.Reader.nodes.Given as goal
+
+-- The nodes so far, and the words that are left.
+abbrev pub invariant-loop-word : goal.invariant-loop-word
+invariant-loop-word l =
+    (limits_of l.self.book.now ≡ limits_of l.fn.self.book.now)
+    × Under (node_of (limits_of l.fn.self.book.now)) (nodes (limits_of l.fn.self.book.now) (texts_of l.fn.self.book.now) (left l.fn.args))
+    (vec_items l.list) (texts_of l.self.book.now) (left l.word-iterator)
