@@ -1,4 +1,5 @@
 pub mod Actions
+pub mod Bodies
 pub mod Line
 pub mod Naming
 pub mod Nodes
@@ -7,3 +8,4 @@ pub mod Reading
 pub mod Room
 pub mod SetCalls
 pub mod SetWords
+pub mod Settling

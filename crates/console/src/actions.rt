@@ -1,6 +1,7 @@
 ghost use Rattle.std.specs.Prelude.{◌≡◌, vec_items};
+ghost use Rattle.std.specs.Option.{option_map};
 ghost use Rattle.names.specs.Book.{texts as texts_of, limits as limits_of};
-ghost use Rattle.console.specs.Actions.{entities as entities_meant, action_read as action_meant, listed};
+ghost use Rattle.console.specs.Actions.{entities as entities_meant, action_read as action_meant, in_brackets as in_brackets_meant, listed};
 ghost use Rattle.console.specs.Reader.{ReadsAs};
 
 // The action scope of a line.
@@ -21,6 +22,13 @@ pub(crate) fn lent(action: &ActionWord) -> ActionScope<'_> {
         ActionIn::Eq(e) => ActionIn::Eq(*e),
         ActionIn::In(list) => ActionIn::In(list.as_slice()),
     }
+}
+
+// The list of in:[LIST]
+fn in_brackets(word: &[u8]) -> Option<&[u8]>
+    ensures { option_map (λ list. list.now) result ≡ in_brackets_meant word.now }
+{
+    word.strip_prefix(b"in:[")?.strip_suffix(b"]")
 }
 
 impl Reader<'_> {
@@ -53,8 +61,7 @@ impl Reader<'_> {
         if let Some(rest) = word.strip_prefix(b"eq:") {
             return Ok(ActionIn::Eq(self.entity(rest)?));
         }
-        let list = word.strip_prefix(b"in:[").ok_or(Wrong::BadScope)?;
-        let list = list.strip_suffix(b"]").ok_or(Wrong::BadScope)?;
+        let list = in_brackets(word).ok_or(Wrong::BadScope)?;
         Ok(ActionIn::In(self.entities(list)?))
     }
 }

@@ -1,3 +1,9 @@
+ghost use Rattle.std.specs.Prelude.{◌≡◌, OnOk};
+ghost use Rattle.names.specs.Book.{texts as texts_of, limits as limits_of};
+ghost use Rattle.console.specs.Bodies.{body as body_meant, parts_of};
+ghost use Rattle.console.specs.Reader.{ReadsAs};
+ghost use Rattle.console.specs.Reading.{left, rest};
+
 // The parts of a template as a line has them.
 use crate::actions::{ActionWord, lent};
 use crate::args::Args;
@@ -21,7 +27,11 @@ pub struct Body {
 
 impl Body {
     // EFFECT P A R CLAUSE
-    pub(crate) fn read(reader: &mut Reader, args: &mut Args) -> Result<Body, Stop> {
+    pub(crate) fn read(reader: &mut Reader, args: &mut Args) -> Result<Body, Stop>
+        ensures body { ReadsAs parts_of result (texts_of reader.new.book.now) (body_meant (limits_of reader.old.book.now) (texts_of reader.old.book.now) (left args.old)) }
+        ensures limits { limits_of reader.new.book.now ≡ limits_of reader.old.book.now }
+        ensures rest { OnOk result (left args.new ≡ rest (rest (rest (rest (rest (left args.old)))))) }
+    {
         let effect = effect(args.word()?)?;
         let principal = reader.scope(args.word()?)?;
         let action = reader.action(args.word()?)?;

@@ -3,6 +3,7 @@ ghost use Rattle.names.specs.Book.{texts as texts_of, limits as limits_of};
 ghost use Rattle.console.specs.Nodes.{plain_node as plain_node_meant, node_of, nodes as nodes_meant};
 ghost use Rattle.console.specs.Reader.{ReadsInto, ReadsAs};
 ghost use Rattle.console.specs.Reading.{left};
+ghost use Rattle.console.specs.Settling.{settled, kind_after};
 
 // Lines that enter clauses: sealed texts or trees, never both.
 use crate::args::Args;
@@ -97,7 +98,13 @@ impl Clauses {
     }
 
     // The first clause says which book the script stands on.
-    fn settle(&mut self, kind: Kind) -> Result<(), Wrong> {
+    fn settle(&mut self, kind: Kind) -> Result<(), Wrong>
+        ensures answer { result ≡ settled self.old.closed self.old.kind kind }
+        ensures kind { self.new.kind ≡ kind_after self.old.closed self.old.kind kind }
+        ensures closed { self.new.closed ≡ self.old.closed }
+        ensures sealed { self.new.sealed ≡ self.old.sealed }
+        ensures trees { self.new.trees ≡ self.old.trees }
+    {
         if self.closed {
             return Err(Wrong::LateClause);
         }

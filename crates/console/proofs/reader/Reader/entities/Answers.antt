@@ -40,8 +40,8 @@ loop-part-preserved c =
     c.loop-part.invariant.0 c.in_ok-entity.ensures.entity in (
       c.entity.ensures.limits ∙ c.loop-part.invariant.0,
       subst (λ es. Under (entity ls) whole es (texts c.entity.new.self.book.now) (slice_split is_comma c.in-Some.behind.now)) (sym c.in_ok-push.ensures.items)
-      (one_read (entity ls) whole items (texts c.loop-part.self.book.now) (slice_split is_comma c.in-Some.behind.now) c.in-Some.part.now c.in_ok-entity.field-0
-          (texts c.entity.new.self.book.now) under read)
+          (one_read (entity ls) whole items (texts c.loop-part.self.book.now) (slice_split is_comma c.in-Some.behind.now) c.in-Some.part.now c.in_ok-entity.field-0
+          (texts c.entity.new.self.book.now) under read),
     )
 
 pub returns-in_err-entity-2-clause-entities : goal.returns-in_err-entity-2-clause-entities
