@@ -9,3 +9,4 @@ pub mod Room
 pub mod SetCalls
 pub mod SetWords
 pub mod Settling
+pub mod Told

@@ -1,3 +1,6 @@
+ghost use Rattle.names.specs.Book.{texts as texts_of};
+ghost use Rattle.console.specs.Told.{Told};
+
 use crate::args::Args;
 use crate::clause_calls::Clauses;
 use crate::name_calls::NameWord;
@@ -17,6 +20,25 @@ pub struct Session {
     book: NameBook,
     clauses: Clauses,
     sets: Sets,
+}
+
+// The line of an answer, or of why there is none; no line where there is nothing to answer.
+fn told(
+    heap: Global,
+    book: &NameBook,
+    answer: Result<Option<String>, Stop>,
+) -> Result<Option<String>, AllocError>
+    ensures { Told (texts_of book.now) answer result }
+{
+    match answer {
+        Ok(line) => Ok(line),
+        Err(Stop::Wrong(wrong)) => {
+            let text = wrong.text();
+            Ok(Some(format!(in heap; "error {text}")?))
+        }
+        Err(Stop::Refused(refusal)) => Ok(Some(refused(heap, book, refusal)?)),
+        Err(Stop::NoMemory) => Err(AllocError),
+    }
 }
 
 impl Session {
@@ -65,11 +87,7 @@ impl Session {
 
     // The answer to a line, without its line feed.
     pub(crate) fn answer(&mut self, line: &[u8]) -> Result<Option<String>, AllocError> {
-        match self.call(line) {
-            Ok(answer) => Ok(answer),
-            Err(Stop::Wrong(wrong)) => Ok(Some(format!(in self.heap; "error {wrong}")?)),
-            Err(Stop::Refused(refusal)) => Ok(Some(refused(self.heap, &self.book, refusal)?)),
-            Err(Stop::NoMemory) => Err(AllocError),
-        }
+        let answer = self.call(line);
+        told(self.heap, &self.book, answer)
     }
 }

@@ -1,10 +1,10 @@
 ghost use Rattle.std.specs.Prelude.{◌≡◌, Some as Present, codes};
 ghost use Rattle.refusals.specs.declared.refusal.Refusal.TheVariants.{UnknownName as Unlisted};
+ghost use Rattle.console.specs.Told.{wrong_text};
 ghost use Rattle.console.specs.declared.stop.Stop.TheVariants.{Wrong as Broken, Refused as Declined, NoMemory as Exhausted};
 
 use refusals::refusal::{Refusal, UnknownName};
 use std::alloc::{AllocError, AllocFailed};
-use std::fmt;
 
 // What is wrong with a line that is no call.
 #[derive(Clone, Copy)]
@@ -27,9 +27,12 @@ pub enum Wrong {
     LateClause,
 }
 
-impl fmt::Display for Wrong {
-    fn fmt<W: fmt::Write>(&self, f: &mut fmt::Formatter<W>) -> fmt::Result {
-        f.write(match *self {
+impl Wrong {
+    // What the console says of it.
+    pub(crate) fn text(self) -> &'static str
+        ensures { result.now ≡ wrong_text self }
+    {
+        match self {
             Wrong::UnknownCall => "unknown call",
             Wrong::MissingWord => "too few words",
             Wrong::ExtraWord => "too many words",
@@ -46,7 +49,7 @@ impl fmt::Display for Wrong {
             Wrong::BadMerge => "a merge is to rename or refuse",
             Wrong::OtherBook => "a script has clauses or trees, not both",
             Wrong::LateClause => "clauses come before the first call on a set",
-        })
+        }
     }
 }
 
