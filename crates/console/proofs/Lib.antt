@@ -1,3 +1,4 @@
 mod Spelling
+mod AtPlaces
 mod Commas
 mod EachRead

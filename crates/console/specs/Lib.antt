@@ -3,6 +3,7 @@ pub mod Bodies
 pub mod Line
 pub mod Naming
 pub mod Nodes
+pub mod Places
 pub mod Reader
 pub mod Reading
 pub mod Room

@@ -1,4 +1,5 @@
-ghost use Rattle.std.specs.Prelude.{◌≡◌};
+ghost use Rattle.std.specs.Prelude.{◌≡◌, ℕ, IfOk, Option, vec_items};
+ghost use Rattle.console.specs.Places.{at_places};
 ghost use Rattle.console.specs.SetWords.{read_word};
 
 // Lines that read a set.
@@ -54,6 +55,7 @@ pub(crate) fn places<T: Drop, F: Fn(usize) -> Option<T>>(
     at: F,
 ) -> Result<Vec<T>, AllocError>
     requires { F.IsAlwaysCallable at }
+    ensures { (f : ℕ → Option _) → ((place : ℕ) (r : _) → F.post at place r → r ≡ f place) → IfOk result (λ list. vec_items list ≡ at_places f 0 256) }
 {
     let mut list = Vec::new(heap);
     for place in 0..MOST_ROWS {
