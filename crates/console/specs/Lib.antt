@@ -1,5 +1,6 @@
 pub mod Actions
 pub mod Bodies
+pub mod Dump
 pub mod Line
 pub mod Naming
 pub mod Nodes

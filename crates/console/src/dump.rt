@@ -1,3 +1,8 @@
+ghost use Rattle.std.specs.Prelude.{◌≡◌, OnOk, string_bytes};
+ghost use Rattle.names.specs.Book.{texts as texts_of};
+ghost use Rattle.policy_set.specs.Meaning.{maps_of};
+ghost use Rattle.console.specs.Dump.{with_reverse, with_reverses};
+
 // What a set holds, line by line.
 use crate::set_reads::{ids_under, places};
 use crate::stop::Stop;
@@ -43,21 +48,36 @@ fn push_policies(
     Ok(())
 }
 
+// Puts the `reverse` line of a template behind a text.
+fn push_members(
+    text: &mut String,
+    book: &NameBook,
+    id: NameNumber,
+    members: &[NameNumber],
+) -> Result<(), Stop>
+    ensures { OnOk result (string_bytes text.new ≡ with_reverse (texts_of book.now) (string_bytes text.old) id members.now) }
+{
+    write!(text, "\nreverse")?;
+    push_id(text, book, id)?;
+    push_number(text, members.len())?;
+    for member in members {
+        push_id(text, book, *member)?;
+    }
+    Ok(())
+}
+
 // Puts a `reverse` line for each of some templates behind a text.
 fn push_reverse(
     text: &mut String,
     book: &NameBook,
     set: &PolicySet,
     ids: &[NameNumber],
-) -> Result<(), Stop> {
+) -> Result<(), Stop>
+    ensures { OnOk result (string_bytes text.new ≡ with_reverses (texts_of book.now) (maps_of set.now) (string_bytes text.old) ids.now) }
+{
     for id in ids {
         let members = ids_under(*text.allocator(), book, set, *id)?;
-        write!(text, "\nreverse")?;
-        push_id(text, book, *id)?;
-        push_number(text, members.len())?;
-        for member in members.as_slice() {
-            push_id(text, book, *member)?;
-        }
+        push_members(text, book, *id, members.as_slice())?;
     }
     Ok(())
 }

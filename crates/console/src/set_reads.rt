@@ -1,4 +1,8 @@
-ghost use Rattle.std.specs.Prelude.{◌≡◌, ℕ, IfOk, Option, vec_items};
+ghost use Rattle.std.specs.Prelude.{◌≡◌, ℕ, length, IfOk, Option, vec_items};
+ghost use Rattle.policy_set.specs.Meaning.{maps_of};
+ghost use Rattle.policy_set.specs.Listing.{get_linked_policies_answer};
+ghost use Rattle.names.specs.Book.{texts as texts_of};
+ghost use Rattle.console.specs.Dump.{members, or_none};
 ghost use Rattle.console.specs.Places.{at_places};
 ghost use Rattle.console.specs.SetWords.{read_word};
 
@@ -73,13 +77,15 @@ pub(crate) fn ids_under(
     book: &NameBook,
     set: &PolicySet,
     id: NameNumber,
-) -> Result<Vec<NameNumber>, Stop> {
+) -> Result<Vec<NameNumber>, Stop>
+    ensures { IfOk result (λ ids. vec_items ids ≡ members (maps_of set.now) id) }
+{
     // Whether there is such a template is asked once: at the other places the call can't be refused.
     let _ = set.get_linked_policies(id, 0, book)?;
-    Ok(places(
-        heap,
-        |place| set.get_linked_policies(id, place, book).unwrap_or(None),
-    )?)
+    let at = |place: usize|
+        ensures { result ≡ or_none (get_linked_policies_answer (length (texts_of book.entry.now)) (maps_of set.entry.now) id place) }
+    { set.get_linked_policies(id, place, book).unwrap_or(None) };
+    Ok(places(heap, at)?)
 }
 
 impl Reader<'_> {

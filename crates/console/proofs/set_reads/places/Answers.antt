@@ -10,7 +10,7 @@ loop-place-preserved g c =
     let place = c.loop-place.place in
     subst (λ xs. at_places f 0 256 ≡ xs ++ at_places f (place + 1) (256 - (place + 1))) (sym c.in_ok-push.ensures.items)
     (one_place f (at_places f 0 256) (vec_items c.loop-place.list) place (256 - place) (256 - (place + 1)) c.in-Some.item (c.loop-place.invariant f law) (omega arith)
-        (law place (Some c.in-Some.item) c.in-Some.ensures))
+    (law place (Some c.in-Some.item) c.in-Some.ensures))
 
 pub returns : goal.returns
 returns g c =
