@@ -1,9 +1,12 @@
 -- The lines of a dump.
 use Rattle.std.specs.Prelude.{ℕ, List, [], ◌∷◌, ◌++◌, map, length, Some, None, Ok, Err, Option, Result, codes, decimal}
 use Rattle.refusals.specs.declared.refusal.Refusal.{Refusal}
+use Rattle.policy.specs.Arity.{Parts}
+use Rattle.policy.specs.declared.template.Template.{Template}
 use Rattle.policy_set.specs.Listing.{linked_at}
-use Rattle.policy_set.specs.Maps.{Maps}
+use Rattle.policy_set.specs.Maps.{Maps, template_at, in_force}
 use Rattle.printing.specs.Print.{spaced, id_word}
+use Rattle.printing.specs.Records.{template_words, policy_words}
 use Rattle.console.specs.Places.{at_places}
 
 -- What an answer gives, and nothing where it is a refusal.
@@ -23,3 +26,23 @@ with_reverse texts text id ids = spaced (text ++ codes "\nreverse") (id_word tex
 abbrev pub with_reverses : List (List ℕ) → Maps → List ℕ → List ℕ → List ℕ
 with_reverses texts m text [] = text
 with_reverses texts m text (id ∷ ids) = with_reverses texts m (with_reverse texts text id (members m id)) ids
+
+-- The `template` line of the template that an id names behind a text.
+abbrev pub with_template : List (List ℕ) → List ℕ → Option Template → List ℕ
+with_template texts text None = text
+with_template texts text (Some t) = spaced (text ++ codes "\ntemplate") (template_words texts t)
+
+-- The lines of some templates.
+abbrev pub with_templates : List (List ℕ) → Maps → List ℕ → List ℕ → List ℕ
+with_templates texts m text [] = text
+with_templates texts m text (id ∷ ids) = with_templates texts m (with_template texts text (template_at m id)) ids
+
+-- The `policy` line of the policy that an id names behind a text.
+abbrev pub with_policy : List (List ℕ) → List ℕ → Option Parts → List ℕ
+with_policy texts text None = text
+with_policy texts text (Some p) = spaced (text ++ codes "\npolicy") (policy_words texts p)
+
+-- The lines of some policies, each with its template's id behind its own.
+abbrev pub with_policies : List (List ℕ) → Maps → List ℕ → List (ℕ × ℕ) → List ℕ
+with_policies texts m text [] = text
+with_policies texts m text (ids ∷ more) = with_policies texts m (with_policy texts text (in_force m ids.0)) more

@@ -1,7 +1,7 @@
 ghost use Rattle.std.specs.Prelude.{◌≡◌, OnOk, string_bytes};
 ghost use Rattle.names.specs.Book.{texts as texts_of};
 ghost use Rattle.policy_set.specs.Meaning.{maps_of};
-ghost use Rattle.console.specs.Dump.{with_reverse, with_reverses};
+ghost use Rattle.console.specs.Dump.{with_reverse, with_reverses, with_templates, with_policies};
 
 // What a set holds, line by line.
 use crate::set_reads::{ids_under, places};
@@ -22,7 +22,9 @@ fn push_templates(
     book: &NameBook,
     set: &PolicySet,
     ids: &[NameNumber],
-) -> Result<(), Stop> {
+) -> Result<(), Stop>
+    ensures { OnOk result (string_bytes text.new ≡ with_templates (texts_of book.now) (maps_of set.now) (string_bytes text.old) ids.now) }
+{
     for id in ids {
         if let Some(t) = set.get_template(*id, book)? {
             write!(text, "\ntemplate")?;
@@ -38,7 +40,9 @@ fn push_policies(
     book: &NameBook,
     set: &PolicySet,
     ids: &[(NameNumber, NameNumber)],
-) -> Result<(), Stop> {
+) -> Result<(), Stop>
+    ensures { OnOk result (string_bytes text.new ≡ with_policies (texts_of book.now) (maps_of set.now) (string_bytes text.old) ids.now) }
+{
     for (id, _) in ids {
         if let Some(policy) = set.get(*id, book)? {
             write!(text, "\npolicy")?;

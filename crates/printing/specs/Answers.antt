@@ -1,5 +1,6 @@
 -- How the answers of accepted calls on sets are printed.
 use Rattle.std.specs.Prelude.{ℕ, List, ◌∷◌, ◌++◌, length, map, codes, decimal}
+use Rattle.policy.specs.Arity.{parts}
 use Rattle.policy.specs.declared.bound.Policy.{Policy}
 use Rattle.policy_set.specs.declared.rows.Renaming.{Renaming}
 use Rattle.calls.specs.declared.call.Side.{Side}
@@ -31,7 +32,7 @@ pairs_line texts pairs = counted_line (map (λ pair. pair_word texts pair.old (c
 
 -- The line of a policy that was taken from a set.
 abbrev pub taken_line : List (List ℕ) → Policy → List ℕ
-taken_line texts p = spaced (spaced (codes "ok policy") (policy_words texts p)) (fields_words texts p.template)
+taken_line texts p = spaced (spaced (codes "ok policy") (policy_words texts (parts p))) (fields_words texts p.template)
 
 -- The line of a policy that a call handed back: of a new link by its ids and values.
 abbrev pub policy_line : List (List ℕ) → Call → Policy → List ℕ

@@ -5,7 +5,8 @@ use Rattle.policy.specs.declared.constraint.Effect.{Effect}
 use Rattle.policy.specs.declared.constraint.Effect.TheVariants.{Permit, Forbid}
 use Rattle.policy.specs.declared.template.Template.{Template}
 use Rattle.policy.specs.declared.values.SlotEnv.{SlotEnv}
-use Rattle.policy.specs.declared.bound.Policy.{Policy}
+use Rattle.policy.specs.Arity.{Parts}
+use Rattle.policy_set.specs.Answers.{id_of}
 use Rattle.printing.specs.Print.{id_word}
 use Rattle.printing.specs.Scopes.{entity_word, scope_word, action_word}
 
@@ -37,20 +38,15 @@ fields_words texts t =
 abbrev pub template_words : List (List ℕ) → Template → List (List ℕ)
 template_words texts t = id_word texts t.id ∷ fields_words texts t
 
--- The id of a policy: a link's own, or its template's.
-abbrev pub policy_id : Option ℕ → ℕ → ℕ
-policy_id None template = template
-policy_id (Some id) template = id
-
 -- The kind of a policy.
 abbrev pub kind_word : Option ℕ → List ℕ
 kind_word None = codes "static"
 kind_word (Some id) = codes "link"
 
 -- ID TEMPLATEID KIND PV RV.
-abbrev pub policy_words : List (List ℕ) → Policy → List (List ℕ)
+abbrev pub policy_words : List (List ℕ) → Parts → List (List ℕ)
 policy_words texts p =
-    id_word texts (policy_id p.link p.template.id) ∷ id_word texts p.template.id ∷ kind_word p.link ∷ values_words texts p.values
+    id_word texts (id_of p) ∷ id_word texts p.template.id ∷ kind_word p.link ∷ values_words texts p.values
 
 -- Two ids with a sign between them.
 abbrev pub pair_word : List (List ℕ) → ℕ → List ℕ → ℕ → List ℕ

@@ -1,5 +1,6 @@
 ghost use Rattle.std.specs.Prelude.{◌≡◌, ◌∷◌, ◌++◌, string_bytes, OnOk};
 ghost use Rattle.names.specs.Book.{texts as texts_of};
+ghost use Rattle.policy.specs.Arity.{parts};
 ghost use Rattle.printing.specs.Print.{spaced};
 ghost use Rattle.printing.specs.Records.{fields_words, template_words, pair_word, value_word, values_words, clause_word, effect_word, policy_words};
 
@@ -84,7 +85,7 @@ pub fn push_template(line: &mut String, book: &NameBook, t: &Template) -> Result
 
 // Puts ID TEMPLATEID KIND PV RV of a policy behind a line; a static policy has its template's id.
 pub fn push_policy(line: &mut String, book: &NameBook, p: &Policy) -> Result<(), AllocError>
-    ensures { OnOk result (string_bytes line.new ≡ spaced (string_bytes line.old) (policy_words (texts_of book.now) p.now)) }
+    ensures { OnOk result (string_bytes line.new ≡ spaced (string_bytes line.old) (policy_words (texts_of book.now) (parts p.now))) }
 {
     push_id(line, book, p.link.unwrap_or(p.template.id))?;
     push_id(line, book, p.template.id)?;
