@@ -3,8 +3,10 @@ use Rattle.std.specs.Prelude.{ℕ, List, [], ◌∷◌, ◌++◌, map, length, S
 use Rattle.refusals.specs.declared.refusal.Refusal.{Refusal}
 use Rattle.policy.specs.Arity.{Parts}
 use Rattle.policy.specs.declared.template.Template.{Template}
-use Rattle.policy_set.specs.Listing.{linked_at}
+use Rattle.policy_set.specs.Listing.{linked_at, all_templates_answer, policies_answer}
 use Rattle.policy_set.specs.Maps.{Maps, template_at, in_force}
+use Rattle.calls.specs.declared.call.Side.{Side}
+use Rattle.printing.specs.Answers.{side_word}
 use Rattle.printing.specs.Print.{spaced, id_word}
 use Rattle.printing.specs.Records.{template_words, policy_words}
 use Rattle.console.specs.Places.{at_places}
@@ -46,3 +48,21 @@ with_policy texts text (Some p) = spaced (text ++ codes "\npolicy") (policy_word
 abbrev pub with_policies : List (List ℕ) → Maps → List ℕ → List (ℕ × ℕ) → List ℕ
 with_policies texts m text [] = text
 with_policies texts m text (ids ∷ more) = with_policies texts m (with_policy texts text (in_force m ids.0)) more
+
+-- The ids of all templates, and of all policies with those of their templates.
+abbrev pub all_templates : Maps → List ℕ
+all_templates m = at_places (all_templates_answer m) 0 256
+
+abbrev pub all_policies : Maps → List (ℕ × ℕ)
+all_policies m = at_places (policies_answer m) 0 256
+
+-- The first line of a dump: how many templates and policies there are.
+abbrev pub dump_line : Side → Maps → List ℕ
+dump_line side m = spaced (codes "dump " ++ side_word side) (decimal (length (all_templates m)) ∷ decimal (length (all_policies m)) ∷ [])
+
+-- All lines of a dump.
+abbrev pub dump_lines : List (List ℕ) → Side → Maps → List ℕ
+dump_lines texts side m =
+    with_reverses texts m
+    (with_policies texts m (with_templates texts m (dump_line side m) (all_templates m)) (all_policies m))
+    (all_templates m)

@@ -1,7 +1,7 @@
-ghost use Rattle.std.specs.Prelude.{◌≡◌, OnOk, string_bytes};
+ghost use Rattle.std.specs.Prelude.{◌≡◌, IfOk, OnOk, string_bytes};
 ghost use Rattle.names.specs.Book.{texts as texts_of};
 ghost use Rattle.policy_set.specs.Meaning.{maps_of};
-ghost use Rattle.console.specs.Dump.{with_reverse, with_reverses, with_templates, with_policies};
+ghost use Rattle.console.specs.Dump.{with_reverse, with_reverses, with_templates, with_policies, dump_lines};
 
 // What a set holds, line by line.
 use crate::set_reads::{ids_under, places};
@@ -92,7 +92,9 @@ pub(crate) fn dump(
     book: &NameBook,
     side: Side,
     set: &PolicySet,
-) -> Result<String, Stop> {
+) -> Result<String, Stop>
+    ensures { IfOk result (λ text. string_bytes text ≡ dump_lines (texts_of book.now) side (maps_of set.now)) }
+{
     let templates = places(heap, |place| set.all_templates(place))?;
     let policies = places(heap, |place| set.policies(place))?;
     let word = side_word(side);
