@@ -2,6 +2,7 @@ pub mod Actions
 pub mod Bodies
 pub mod Dump
 pub mod Line
+pub mod Listings
 pub mod Naming
 pub mod Nodes
 pub mod Places

@@ -1,5 +1,5 @@
 -- Which clause book a script stands on.
-use Rattle.std.specs.Prelude.{Bool, true, false, cond, Some, None, Ok, Err, Option, Result}
+use Rattle.std.specs.Prelude.{Bool, true, false, Some, None, Ok, Err, Option, Result}
 use Rattle.console.specs.declared.clause_calls.Kind.{Kind}
 use Rattle.console.specs.declared.clause_calls.Kind.TheVariants.{Sealed, Trees}
 use Rattle.console.specs.declared.stop.Wrong.{Wrong}

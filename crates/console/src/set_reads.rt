@@ -1,9 +1,13 @@
-ghost use Rattle.std.specs.Prelude.{◌≡◌, ℕ, length, IfOk, Option, vec_items};
+ghost use Rattle.std.specs.Prelude.{◌≡◌, ℕ, length, IfOk, Option, string_bytes, vec_items};
 ghost use Rattle.policy_set.specs.Meaning.{maps_of};
-ghost use Rattle.policy_set.specs.Listing.{get_linked_policies_answer};
-ghost use Rattle.names.specs.Book.{texts as texts_of};
+ghost use Rattle.policy_set.specs.Listing.{templates_answer, get_linked_policies_answer};
+ghost use Rattle.names.specs.Book.{texts as texts_of, limits as limits_of};
 ghost use Rattle.console.specs.Dump.{members, or_none};
+ghost use Rattle.printing.specs.Answers.{policies_line as policies_words};
+ghost use Rattle.console.specs.Listings.{ids_words};
 ghost use Rattle.console.specs.Places.{at_places};
+ghost use Rattle.console.specs.Reader.{given, last_id as last_id_meant};
+ghost use Rattle.console.specs.Reading.{left};
 ghost use Rattle.console.specs.SetWords.{read_word};
 
 // Lines that read a set.
@@ -96,6 +100,7 @@ impl Reader<'_> {
         at: F,
     ) -> Result<String, Stop>
         requires { F.IsAlwaysCallable at }
+        ensures { (f : ℕ → Option (ℕ × ℕ)) → ((place : ℕ) (r : _) → F.post at place r → r ≡ f place) → IfOk result (λ line. string_bytes line ≡ policies_words (texts_of self.now.book.now) (at_places f 0 256)) }
     {
         args.end()?;
         let ids = places(self.heap, at)?;
@@ -103,14 +108,18 @@ impl Reader<'_> {
     }
 
     // `templates SET`: `ok N ID ...`
-    fn templates(&self, args: &mut Args, set: &PolicySet) -> Result<String, Stop> {
+    fn templates(&self, args: &mut Args, set: &PolicySet) -> Result<String, Stop>
+        ensures { IfOk result (λ line. string_bytes line ≡ ids_words (texts_of self.now.book.now) (at_places (templates_answer (maps_of set.now)) 0 256)) }
+    {
         args.end()?;
         let ids = places(self.heap, |place| set.templates(place))?;
         Ok(ids_line(self.heap, self.book, ids.as_slice())?)
     }
 
     // `links SET ID`: `ok N ID ...`
-    fn links(&mut self, args: &mut Args, set: &PolicySet) -> Result<String, Stop> {
+    fn links(&mut self, args: &mut Args, set: &PolicySet) -> Result<String, Stop>
+        ensures { IfOk result (λ line. (id : ℕ) × (last_id_meant (limits_of self.old.book.now) (texts_of self.old.book.now) (left args.old) ≡ given id (texts_of self.new.book.now)) × (string_bytes line ≡ ids_words (texts_of self.new.book.now) (members (maps_of set.now) id))) }
+    {
         let id = self.last_id(args)?;
         let ids = ids_under(self.heap, self.book, set, id)?;
         Ok(ids_line(self.heap, self.book, ids.as_slice())?)

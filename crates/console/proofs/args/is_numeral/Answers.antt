@@ -3,7 +3,7 @@ use Rattle.std.proofs.lemmas.Bool.Decides.{nat_tests}
 use Rattle.std.proofs.lemmas.Iterator.{YieldsList-from_slice}
 use Rattle.std.proofs.lemmas.Iterator.Search.{all_from_yields_List}
 use Rattle.std.specs.List.{list_all}
-use Rattle.script.specs.Number.{one_more, continued, numeral}
+use Rattle.script.specs.Number.{continued, numeral}
 use Rattle.console.proofs.args.is_numeral.Goals as goal
 use borrow.Author.Tests.{tests}
 

@@ -30,5 +30,5 @@ returns c =
     ∙ (ap (λ text. with_reverses us m (with_policies us m text ps) ts) second
     ∙ (ap (λ text. with_reverses us m (with_policies us m (with_templates us m text ts) ps) ts) first
     ∙ assembled us c.args.side m ts ps
-        (c.in_ok-templates.ensures (all_templates_answer m) (λ place r q. search (rules, q)))
-        (c.in_ok-policies.ensures (policies_answer m) (λ place r q. search (rules, q))))))
+    (c.in_ok-templates.ensures (all_templates_answer m) (λ place r q. search (rules, q)))
+    (c.in_ok-policies.ensures (policies_answer m) (λ place r q. search (rules, q))))))

@@ -1,4 +1,4 @@
-use Rattle.std.proofs.Common.{◌≡◌, ℕ, suc, ◌+◌, ◌-◌, Bool, false, cond, List, length, Some, Option, sym, ap, ◌∙◌, arith, rules}
+use Rattle.std.proofs.Common.{◌≡◌, ℕ, suc, ◌+◌, ◌-◌, Bool, false, cond, List, length, Some, ap, ◌∙◌, arith, rules}
 use Rattle.console.specs.Reader.{lone, lone_from}
 use Rattle.console.proofs.reader.lone_colon.Goals as goal
 

@@ -1,4 +1,4 @@
-use Rattle.std.proofs.Common.{◌≡◌, ◌+◌, ◌-◌, List, [], ◌∷◌, ◌++◌, Some, None, vec_items, sym, subst, arith}
+use Rattle.std.proofs.Common.{◌≡◌, ◌+◌, ◌-◌, ◌++◌, Some, None, vec_items, sym, subst, arith}
 use Rattle.console.specs.Places.{at_places}
 use Rattle.console.proofs.AtPlaces.{one_place, last_place, no_place}
 use Rattle.console.proofs.set_reads.places.Goals.{else-loop-place-test, then-loop-place-test+in_default}

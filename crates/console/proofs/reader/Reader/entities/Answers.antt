@@ -1,10 +1,10 @@
-use Rattle.std.proofs.Common.{◌≡◌, ℕ, ◌<◌, List, [], ◌∷◌, length, Some, None, vec_items, sym, subst, ◌∙◌, arith, rules}
+use Rattle.std.proofs.Common.{◌≡◌, ◌<◌, length, Some, None, vec_items, sym, subst, ◌∙◌, arith, rules}
 use Rattle.std.proofs.lemmas.Bool.Decides.{nat_tests}
 use Rattle.std.specs.List.{slice_split}
 use Rattle.names.specs.Book.{texts, limits}
 use Rattle.names.specs.Names.{Limits}
 use Rattle.script.specs.Parts.{split_once}
-use Rattle.console.specs.Actions.{is_comma, entities}
+use Rattle.console.specs.Actions.{is_comma}
 use Rattle.console.specs.Reader.{given, each, entity}
 use Rattle.console.proofs.Commas.{cut_first, cut_none, shorter_part, filled}
 use Rattle.console.proofs.EachRead.{Under, one_read}
