@@ -6,7 +6,7 @@ ghost use Rattle.calls.specs.Model.{told, answered, step};
 ghost use Rattle.calls.specs.Meaning.{state_of};
 ghost use Rattle.console.specs.Reader.{ReadsInto};
 ghost use Rattle.console.specs.Reading.{left};
-ghost use Rattle.console.specs.SetCalls.{link as link_meant, merge as merge_meant};
+ghost use Rattle.console.specs.SetCalls.{link as link_meant, merge as merge_meant, ChangeRead};
 ghost use Rattle.console.specs.SetWords.{change_word, set_word, renames_meant};
 
 // Lines on sets: those that change a set are read into calls, which are made and answered.
@@ -143,7 +143,9 @@ impl Reader<'_> {
         side: Side,
         args: &mut Args,
         clauses: &B,
-    ) -> Result<Call<'static>, Stop> {
+    ) -> Result<Call<'static>, Stop>
+        ensures { ChangeRead (limits_of self.old.book.now) (texts_of self.old.book.now) change side (left args.old) result (texts_of self.new.book.now) }
+    {
         match change {
             Change::Template => Ok(Call::AddTemplate(side, self.template(args, clauses)?)),
             Change::Static => Ok(Call::AddStatic(side, self.static_policy(args, clauses)?)),
