@@ -1,4 +1,9 @@
+mod Answers
 mod Spelling
 mod AtPlaces
 mod Commas
 mod EachRead
+mod Ended
+mod Errors
+mod TreeEntered
+mod Templates

@@ -12,7 +12,7 @@ use Rattle.console.specs.Reading.{rest, next_word}
 use Rattle.console.specs.declared.body.Body.{Body}
 
 -- The parts, the action's list by its items.
-pub record Parts : Type 0 where
+pub record TemplateParts : Type 0 where
   pub effect : Effect
   pub principal : PrincipalOrResourceConstraint
   pub action : ActionIn (List EntityUID)
@@ -20,11 +20,11 @@ pub record Parts : Type 0 where
   pub clause : Option ℕ
 
 -- The parts that were read.
-abbrev pub parts_of : Body → Parts
+abbrev pub parts_of : Body → TemplateParts
 parts_of b = record { effect = b.effect; principal = b.principal; action = listed b.action; resource = b.resource; clause = b.clause }
 
 -- EFFECT P A R CLAUSE
-abbrev pub body : Limits → List (List ℕ) → List (List ℕ) → Reading Parts
+abbrev pub body : Limits → List (List ℕ) → List (List ℕ) → Reading TemplateParts
 body limits texts words =
     if_some (option_and_then effect_of (next_word words)) texts (λ effect.
     if_some (next_word (rest words)) texts (λ p. next (scope_read limits texts p) (λ principal texts1.

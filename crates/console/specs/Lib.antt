@@ -1,5 +1,7 @@
 pub mod Actions
+pub mod Answered
 pub mod Bodies
+pub mod ClauseLines
 pub mod Dump
 pub mod Line
 pub mod Listings
@@ -10,6 +12,10 @@ pub mod Reader
 pub mod Reading
 pub mod Room
 pub mod SetCalls
+pub mod SetLines
+pub mod SetReads
 pub mod SetWords
 pub mod Settling
+pub mod TemplateLines
+pub mod Templates
 pub mod Told

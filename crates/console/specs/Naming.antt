@@ -1,21 +1,18 @@
 -- What lines on names answer.
-use Rattle.std.specs.Prelude.{◌≡◌, ℕ, Bool, true, false, List, ◌++◌, Ok, Err, Decides, Result, String, codes, decimal, string_bytes}
+use Rattle.std.specs.Prelude.{ℕ, Bool, true, false, List, ◌++◌, Ok, Err, Decides, Result, String, codes, decimal, string_bytes}
 use Rattle.std.specs.declared.alloc.Global.{Global}
 use Rattle.refusals.specs.declared.refusal.Refusal.{Refusal}
 use Rattle.names.specs.Names.{Limits, name_answer, name_after, text_answer}
 use Rattle.names.specs.TypeName.{TypeName, IsAction}
 use Rattle.script.specs.Percent.{encoded}
 use Rattle.script.specs.declared.encode.Colon.TheVariants.{Coded}
+use Rattle.console.specs.Answered.{AnswersAs}
 use Rattle.console.specs.Line.{Line, wrong, name, text, type_name, action}
 use Rattle.console.specs.declared.stop.Stop.{Stop}
-use Rattle.console.specs.declared.stop.Stop.TheVariants.{Wrong, Refused, NoMemory}
 
 -- A call prints its line or is refused; there may also be too little memory.
 abbrev pub Prints : Result (String Global) Stop → Result (List ℕ) Refusal → Type 0
-Prints (Ok line) answer = answer ≡ Ok (string_bytes line)
-Prints (Err (Refused refusal)) answer = answer ≡ Err refusal
-Prints (Err (Wrong w)) answer = ⊥
-Prints (Err NoMemory) answer = Unit {0}
+Prints result answer = AnswersAs string_bytes result answer
 
 -- The word of a yes or a no.
 abbrev pub yes_word : Bool → List ℕ

@@ -10,3 +10,7 @@ and_more (Some x) more = x ∷ more
 abbrev pub at_places : {X : Type 0} → (ℕ → Option X) → ℕ → ℕ → List X
 at_places at place zero = []
 at_places at place (suc n) = and_more (at place) (at_places at (place + 1) n)
+
+-- What is at all places: no table of a set has more than 256 rows.
+unfoldable pub all_places : {X : Type 0} → (ℕ → Option X) → List X
+all_places at = at_places at 0 256

@@ -21,7 +21,7 @@ use Rattle.console.specs.declared.reader.ScopeKind.TheVariants as kind
 use Rattle.console.specs.declared.stop.Stop.{Stop}
 use Rattle.console.specs.declared.stop.Stop.TheVariants.{Wrong, Refused, NoMemory}
 
--- What was read, or why not: a word is wrong, or the book refuses a text; and the texts of the book then.
+-- What was read of a line, or why not: a word is wrong, or a call is refused; and the texts of the name book then.
 pub data Reading (X : Type 0) : Type 0 where
   given : X → List (List ℕ) → Reading X
   wrong : List (List ℕ) → Reading X
@@ -56,14 +56,14 @@ abbrev pub if_some : {X Y : Type 0} → Option X → List (List ℕ) → (X → 
 if_some None texts more = wrong texts
 if_some (Some x) texts more = more x
 
--- The number that an answer of the book gives.
-abbrev pub numbered : Result ℕ Refusal → List (List ℕ) → Reading ℕ
-numbered (Ok n) texts = given n texts
-numbered (Err refusal) texts = refused refusal texts
+-- What an answer gives, with the texts then.
+abbrev pub answered : {X : Type 0} → Result X Refusal → List (List ℕ) → Reading X
+answered (Ok x) texts = given x texts
+answered (Err refusal) texts = refused refusal texts
 
 -- The number of the text that a word means.
 abbrev pub name : Limits → List (List ℕ) → List ℕ → Reading ℕ
-name limits texts word = if_some (decoded word) texts (λ text. numbered (name_answer limits texts text) (name_after limits texts text))
+name limits texts word = if_some (decoded word) texts (λ text. answered (name_answer limits texts text) (name_after limits texts text))
 
 -- What each of some words reads as, one after another.
 abbrev pub each : {X : Type 0} → (List (List ℕ) → List ℕ → Reading X) → List (List ℕ) → List (List ℕ) → Reading (List X)
@@ -91,6 +91,11 @@ at_end (word ∷ words) meant = next meant (λ x texts. wrong texts)
 -- The id that is the last word.
 abbrev pub last_id : Limits → List (List ℕ) → List (List ℕ) → Reading ℕ
 last_id limits texts words = at_end (rest words) (id limits texts words)
+
+-- What is asked for where no word is left before anything is done.
+abbrev pub if_end : {X : Type 0} → List (List ℕ) → List (List ℕ) → Reading X → Reading X
+if_end [] texts meant = meant
+if_end (word ∷ words) texts meant = wrong texts
 
 -- TYPE/EID
 abbrev pub entity : Limits → List (List ℕ) → List ℕ → Reading EntityUID

@@ -3,6 +3,7 @@ ghost use Rattle.std.specs.Option.{option_map};
 ghost use Rattle.names.specs.Book.{texts as texts_of, limits as limits_of};
 ghost use Rattle.console.specs.Actions.{entities as entities_meant, action_read as action_meant, in_brackets as in_brackets_meant, listed};
 ghost use Rattle.console.specs.Reader.{ReadsAs};
+ghost use Rattle.console.specs.Templates.{lent_list};
 
 // The action scope of a line.
 use crate::reader::Reader;
@@ -16,7 +17,9 @@ use script::parts::split_once;
 pub type ActionWord = ActionIn<Vec<EntityUID>>;
 
 // The scope, its list lent. No `From`: both types are the library's.
-pub(crate) fn lent(action: &ActionWord) -> ActionScope<'_> {
+pub(crate) fn lent(action: &ActionWord) -> ActionScope<'_>
+    ensures { lent_list result ≡ listed action.now }
+{
     match action {
         ActionIn::Any => ActionIn::Any,
         ActionIn::Eq(e) => ActionIn::Eq(*e),
@@ -31,11 +34,11 @@ fn in_brackets(word: &[u8]) -> Option<&[u8]>
     word.strip_prefix(b"in:[")?.strip_suffix(b"]")
 }
 
-impl Reader<'_> {
+impl Reader {
     // ENTITY,ENTITY,... and nothing for the empty list
     fn entities(&mut self, word: &[u8]) -> Result<Vec<EntityUID>, Stop>
-        ensures entities { ReadsAs vec_items result (texts_of self.new.book.now) (entities_meant (limits_of self.old.book.now) (texts_of self.old.book.now) word.now) }
-        ensures limits { limits_of self.new.book.now ≡ limits_of self.old.book.now }
+        ensures entities { ReadsAs vec_items result (texts_of self.new.book) (entities_meant (limits_of self.old.book) (texts_of self.old.book) word.now) }
+        ensures limits { limits_of self.new.book ≡ limits_of self.old.book }
     {
         let mut list = Vec::new(self.heap);
         if word.is_empty() {
@@ -52,8 +55,8 @@ impl Reader<'_> {
 
     // any, eq:ENTITY, in:[ENTITY,ENTITY,...]
     pub(crate) fn action(&mut self, word: &[u8]) -> Result<ActionWord, Stop>
-        ensures action { ReadsAs listed result (texts_of self.new.book.now) (action_meant (limits_of self.old.book.now) (texts_of self.old.book.now) word.now) }
-        ensures limits { limits_of self.new.book.now ≡ limits_of self.old.book.now }
+        ensures action { ReadsAs listed result (texts_of self.new.book) (action_meant (limits_of self.old.book) (texts_of self.old.book) word.now) }
+        ensures limits { limits_of self.new.book ≡ limits_of self.old.book }
     {
         if word == b"any".as_slice() {
             return Ok(ActionIn::Any);

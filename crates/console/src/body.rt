@@ -3,6 +3,7 @@ ghost use Rattle.names.specs.Book.{texts as texts_of, limits as limits_of};
 ghost use Rattle.console.specs.Bodies.{body as body_meant, parts_of};
 ghost use Rattle.console.specs.Reader.{ReadsAs};
 ghost use Rattle.console.specs.Reading.{left, rest};
+ghost use Rattle.console.specs.Templates.{MakesOf};
 
 // The parts of a template as a line has them.
 use crate::actions::{ActionWord, lent};
@@ -28,8 +29,8 @@ pub struct Body {
 impl Body {
     // EFFECT P A R CLAUSE
     pub(crate) fn read(reader: &mut Reader, args: &mut Args) -> Result<Body, Stop>
-        ensures body { ReadsAs parts_of result (texts_of reader.new.book.now) (body_meant (limits_of reader.old.book.now) (texts_of reader.old.book.now) (left args.old)) }
-        ensures limits { limits_of reader.new.book.now ≡ limits_of reader.old.book.now }
+        ensures body { ReadsAs parts_of result (texts_of reader.new.book) (body_meant (limits_of reader.old.book) (texts_of reader.old.book) (left args.old)) }
+        ensures limits { limits_of reader.new.book ≡ limits_of reader.old.book }
         ensures rest { OnOk result (left args.new ≡ rest (rest (rest (rest (rest (left args.old)))))) }
     {
         let effect = effect(args.word()?)?;
@@ -52,7 +53,9 @@ impl Body {
         id: NameNumber,
         book: &NameBook,
         clauses: &B,
-    ) -> Result<Template, Refusal> {
+    ) -> Result<Template, Refusal>
+        ensures { MakesOf (texts_of book.now) (B.ClauseBook.listed clauses.now) id (parts_of self.now) result }
+    {
         Template::new(
             id,
             self.effect,

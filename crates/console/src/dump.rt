@@ -1,7 +1,11 @@
-ghost use Rattle.std.specs.Prelude.{◌≡◌, IfOk, OnOk, string_bytes};
+ghost use Rattle.std.specs.Prelude.{◌≡◌, length, map, OnOk, string_bytes};
 ghost use Rattle.names.specs.Book.{texts as texts_of};
+ghost use Rattle.policy.specs.Known.{in_turn, names_known};
+ghost use Rattle.policy_set.specs.Listing.{first_id};
 ghost use Rattle.policy_set.specs.Meaning.{maps_of};
-ghost use Rattle.console.specs.Dump.{with_reverse, with_reverses, with_templates, with_policies, dump_lines};
+ghost use Rattle.console.specs.Answered.{AnswersAs};
+ghost use Rattle.console.specs.Dump.{with_reverse, with_reverses, with_templates, with_policies, dump_answer};
+ghost use Rattle.console.specs.Listings.{is_template};
 
 // What a set holds, line by line.
 use crate::set_reads::{ids_under, places};
@@ -13,7 +17,7 @@ use printing::answers::side_word;
 use printing::print::{push_id, push_number};
 use printing::records::{push_policy, push_template};
 use refusals::NameNumber;
-use std::alloc::Global;
+use std::alloc::{AllocError, Global};
 use std::fmt::Write;
 
 // Puts a `template` line for each of some templates behind a text.
@@ -23,7 +27,8 @@ fn push_templates(
     set: &PolicySet,
     ids: &[NameNumber],
 ) -> Result<(), Stop>
-    ensures { OnOk result (string_bytes text.new ≡ with_templates (texts_of book.now) (maps_of set.now) (string_bytes text.old) ids.now) }
+    ensures known { AnswersAs (λ u. u) result (names_known (length (texts_of book.now)) ids.now) }
+    ensures lines { OnOk result (string_bytes text.new ≡ with_templates (texts_of book.now) (maps_of set.now) (string_bytes text.old) ids.now) }
 {
     for id in ids {
         if let Some(t) = set.get_template(*id, book)? {
@@ -41,7 +46,8 @@ fn push_policies(
     set: &PolicySet,
     ids: &[(NameNumber, NameNumber)],
 ) -> Result<(), Stop>
-    ensures { OnOk result (string_bytes text.new ≡ with_policies (texts_of book.now) (maps_of set.now) (string_bytes text.old) ids.now) }
+    ensures known { AnswersAs (λ u. u) result (names_known (length (texts_of book.now)) (map first_id ids.now)) }
+    ensures lines { OnOk result (string_bytes text.new ≡ with_policies (texts_of book.now) (maps_of set.now) (string_bytes text.old) ids.now) }
 {
     for (id, _) in ids {
         if let Some(policy) = set.get(*id, book)? {
@@ -58,7 +64,7 @@ fn push_members(
     book: &NameBook,
     id: NameNumber,
     members: &[NameNumber],
-) -> Result<(), Stop>
+) -> Result<(), AllocError>
     ensures { OnOk result (string_bytes text.new ≡ with_reverse (texts_of book.now) (string_bytes text.old) id members.now) }
 {
     write!(text, "\nreverse")?;
@@ -77,7 +83,8 @@ fn push_reverse(
     set: &PolicySet,
     ids: &[NameNumber],
 ) -> Result<(), Stop>
-    ensures { OnOk result (string_bytes text.new ≡ with_reverses (texts_of book.now) (maps_of set.now) (string_bytes text.old) ids.now) }
+    ensures known { AnswersAs (λ u. u) result (in_turn (is_template (length (texts_of book.now)) (maps_of set.now)) ids.now) }
+    ensures lines { OnOk result (string_bytes text.new ≡ with_reverses (texts_of book.now) (maps_of set.now) (string_bytes text.old) ids.now) }
 {
     for id in ids {
         let members = ids_under(*text.allocator(), book, set, *id)?;
@@ -93,7 +100,7 @@ pub(crate) fn dump(
     side: Side,
     set: &PolicySet,
 ) -> Result<String, Stop>
-    ensures { IfOk result (λ text. string_bytes text ≡ dump_lines (texts_of book.now) side (maps_of set.now)) }
+    ensures { AnswersAs string_bytes result (dump_answer (texts_of book.now) side (maps_of set.now)) }
 {
     let templates = places(heap, |place| set.all_templates(place))?;
     let policies = places(heap, |place| set.policies(place))?;

@@ -46,16 +46,16 @@ impl ScopeKind {
 // Reads words; their texts enter the name book as they are read.
 // The line's other words stand apart, in `Args`: `nodes` goes through them while the reader enters texts.
 #[derive(Drop)]
-pub struct Reader<'a> {
+pub struct Reader {
     pub heap: Global,
-    pub book: &'a mut NameBook,
+    pub book: NameBook,
 }
 
-impl Reader<'_> {
+impl Reader {
     // The number of a text, which enters the book.
     pub(crate) fn name(&mut self, word: &[u8]) -> Result<NameNumber, Stop>
-        ensures name { ReadsInto result (texts_of self.new.book.now) (name_meant (limits_of self.old.book.now) (texts_of self.old.book.now) word.now) }
-        ensures limits { limits_of self.new.book.now ≡ limits_of self.old.book.now }
+        ensures name { ReadsInto result (texts_of self.new.book) (name_meant (limits_of self.old.book) (texts_of self.old.book) word.now) }
+        ensures limits { limits_of self.new.book ≡ limits_of self.old.book }
     {
         let text = decode(self.heap, word)?.ok_or(Wrong::BadPercent)?;
         Ok(self.book.name(text.as_slice())?)
@@ -63,8 +63,8 @@ impl Reader<'_> {
 
     // The id that is the next word.
     pub(crate) fn id(&mut self, args: &mut Args) -> Result<NameNumber, Stop>
-        ensures id { ReadsInto result (texts_of self.new.book.now) (id_meant (limits_of self.old.book.now) (texts_of self.old.book.now) (left args.old)) }
-        ensures limits { limits_of self.new.book.now ≡ limits_of self.old.book.now }
+        ensures id { ReadsInto result (texts_of self.new.book) (id_meant (limits_of self.old.book) (texts_of self.old.book) (left args.old)) }
+        ensures limits { limits_of self.new.book ≡ limits_of self.old.book }
         ensures rest { left args.new ≡ rest (left args.old) }
     {
         self.name(args.word()?)
@@ -72,8 +72,8 @@ impl Reader<'_> {
 
     // The id that is the last word.
     pub(crate) fn last_id(&mut self, args: &mut Args) -> Result<NameNumber, Stop>
-        ensures id { ReadsInto result (texts_of self.new.book.now) (last_id_meant (limits_of self.old.book.now) (texts_of self.old.book.now) (left args.old)) }
-        ensures limits { limits_of self.new.book.now ≡ limits_of self.old.book.now }
+        ensures id { ReadsInto result (texts_of self.new.book) (last_id_meant (limits_of self.old.book) (texts_of self.old.book) (left args.old)) }
+        ensures limits { limits_of self.new.book ≡ limits_of self.old.book }
     {
         let id = self.id(args)?;
         args.end()?;
@@ -82,8 +82,8 @@ impl Reader<'_> {
 
     // TYPE/EID
     pub(crate) fn entity(&mut self, word: &[u8]) -> Result<EntityUID, Stop>
-        ensures entity { ReadsInto result (texts_of self.new.book.now) (entity_meant (limits_of self.old.book.now) (texts_of self.old.book.now) word.now) }
-        ensures limits { limits_of self.new.book.now ≡ limits_of self.old.book.now }
+        ensures entity { ReadsInto result (texts_of self.new.book) (entity_meant (limits_of self.old.book) (texts_of self.old.book) word.now) }
+        ensures limits { limits_of self.new.book ≡ limits_of self.old.book }
     {
         let (ty, eid) = split_once(word, b'/').ok_or(Wrong::BadEntity)?;
         let ty = self.name(ty)?;
@@ -93,8 +93,8 @@ impl Reader<'_> {
 
     // `?`, or an entity
     fn reference(&mut self, word: &[u8]) -> Result<EntityReference, Stop>
-        ensures reference { ReadsInto result (texts_of self.new.book.now) (reference_meant (limits_of self.old.book.now) (texts_of self.old.book.now) word.now) }
-        ensures limits { limits_of self.new.book.now ≡ limits_of self.old.book.now }
+        ensures reference { ReadsInto result (texts_of self.new.book) (reference_meant (limits_of self.old.book) (texts_of self.old.book) word.now) }
+        ensures limits { limits_of self.new.book ≡ limits_of self.old.book }
     {
         Ok(match word {
             b"?" => EntityReference::Slot,
@@ -104,8 +104,8 @@ impl Reader<'_> {
 
     // TYPE:REF, divided at a colon that stands alone
     fn type_in(&mut self, word: &[u8]) -> Result<PrincipalOrResourceConstraint, Stop>
-        ensures scope { ReadsInto result (texts_of self.new.book.now) (type_in_meant (limits_of self.old.book.now) (texts_of self.old.book.now) word.now) }
-        ensures limits { limits_of self.new.book.now ≡ limits_of self.old.book.now }
+        ensures scope { ReadsInto result (texts_of self.new.book) (type_in_meant (limits_of self.old.book) (texts_of self.old.book) word.now) }
+        ensures limits { limits_of self.new.book ≡ limits_of self.old.book }
     {
         let (ty, target) = around_lone_colon(word).ok_or(Wrong::BadScope)?;
         let ty = self.name(ty)?;
@@ -115,8 +115,8 @@ impl Reader<'_> {
 
     // A principal or resource scope: any, eq:REF, in:REF, is:TYPE, isin:TYPE:REF
     pub(crate) fn scope(&mut self, word: &[u8]) -> Result<PrincipalOrResourceConstraint, Stop>
-        ensures scope { ReadsInto result (texts_of self.new.book.now) (scope_meant (limits_of self.old.book.now) (texts_of self.old.book.now) word.now) }
-        ensures limits { limits_of self.new.book.now ≡ limits_of self.old.book.now }
+        ensures scope { ReadsInto result (texts_of self.new.book) (scope_meant (limits_of self.old.book) (texts_of self.old.book) word.now) }
+        ensures limits { limits_of self.new.book ≡ limits_of self.old.book }
     {
         if word == b"any".as_slice() {
             return Ok(PrincipalOrResourceConstraint::Any);
@@ -132,8 +132,8 @@ impl Reader<'_> {
 
     // `-`, or the entity that a slot is given
     fn value(&mut self, word: &[u8]) -> Result<Option<EntityUID>, Stop>
-        ensures value { ReadsInto result (texts_of self.new.book.now) (value_meant (limits_of self.old.book.now) (texts_of self.old.book.now) word.now) }
-        ensures limits { limits_of self.new.book.now ≡ limits_of self.old.book.now }
+        ensures value { ReadsInto result (texts_of self.new.book) (value_meant (limits_of self.old.book) (texts_of self.old.book) word.now) }
+        ensures limits { limits_of self.new.book ≡ limits_of self.old.book }
     {
         Ok(match word {
             b"-" => None,
@@ -143,8 +143,8 @@ impl Reader<'_> {
 
     // PV RV
     pub(crate) fn values(&mut self, args: &mut Args) -> Result<SlotEnv, Stop>
-        ensures values { ReadsInto result (texts_of self.new.book.now) (values_meant (limits_of self.old.book.now) (texts_of self.old.book.now) (left args.old)) }
-        ensures limits { limits_of self.new.book.now ≡ limits_of self.old.book.now }
+        ensures values { ReadsInto result (texts_of self.new.book) (values_meant (limits_of self.old.book) (texts_of self.old.book) (left args.old)) }
+        ensures limits { limits_of self.new.book ≡ limits_of self.old.book }
         ensures rest { OnOk result (left args.new ≡ rest (rest (left args.old))) }
     {
         let principal = self.value(args.word()?)?;

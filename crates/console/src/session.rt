@@ -16,8 +16,7 @@ use std::alloc::{AllocError, Global};
 // What a run keeps from line to line.
 #[derive(Drop)]
 pub struct Session {
-    heap: Global,
-    book: NameBook,
+    reader: Reader,
     clauses: Clauses,
     sets: Sets,
 }
@@ -47,8 +46,7 @@ impl Session {
         let book = NameBook::new(heap, PLACES, ROOM)?;
         let clauses = Clauses::new(heap)?;
         Ok(Session {
-            heap,
-            book,
+            reader: Reader { heap, book },
             clauses,
             sets: Sets::new(),
         })
@@ -56,7 +54,7 @@ impl Session {
 
     // Makes the call of a line; no answer to a blank line or a comment.
     fn call(&mut self, line: &[u8]) -> Result<Option<String>, Stop> {
-        let mut args = Args::new(self.heap, line);
+        let mut args = Args::new(self.reader.heap, line);
         let Some(head) = args.next() else {
             return Ok(None);
         };
@@ -65,21 +63,18 @@ impl Session {
         }
         if let Some(first) = NameWord::of(head) {
             let call = first.read(&mut args)?;
-            return Ok(Some(call.make(self.heap, &mut self.book)?));
+            return Ok(Some(call.make(self.reader.heap, &mut self.reader.book)?));
         }
-        let mut reader = Reader {
-            heap: self.heap,
-            book: &mut self.book,
-        };
+        let reader = &mut self.reader;
         let answer = match head {
-            b"clause" => self.clauses.clause(self.heap, &mut args)?,
-            b"tree" => self.clauses.tree(&mut reader, &mut args)?,
-            b"condition" => self.clauses.condition(&mut reader, &mut args)?,
-            b"binding" => self.clauses.binding(&mut reader, &mut args)?,
+            b"clause" => self.clauses.clause(reader.heap, &mut args)?,
+            b"tree" => self.clauses.tree(reader, &mut args)?,
+            b"condition" => self.clauses.condition(reader, &mut args)?,
+            b"binding" => self.clauses.binding(reader, &mut args)?,
             _ => {
                 let first = SetWord::of(head).ok_or(Wrong::UnknownCall)?;
                 self.clauses
-                    .set_line(first, &mut reader, &mut args, &mut self.sets)?
+                    .set_line(first, reader, &mut args, &mut self.sets)?
             }
         };
         Ok(Some(answer))
@@ -88,6 +83,6 @@ impl Session {
     // The answer to a line, without its line feed.
     pub(crate) fn answer(&mut self, line: &[u8]) -> Result<Option<String>, AllocError> {
         let answer = self.call(line);
-        told(self.heap, &self.book, answer)
+        told(self.reader.heap, &self.reader.book, answer)
     }
 }

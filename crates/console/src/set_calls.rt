@@ -1,13 +1,16 @@
-ghost use Rattle.std.specs.Prelude.{◌≡◌};
+ghost use Rattle.std.specs.Prelude.{◌≡◌, OnOk};
 ghost use Rattle.std.specs.Result.{result_ok};
 ghost use Rattle.names.specs.Book.{texts as texts_of};
 ghost use Rattle.names.specs.Book.{limits as limits_of};
 ghost use Rattle.calls.specs.Model.{told, answered, step};
 ghost use Rattle.calls.specs.Meaning.{state_of};
-ghost use Rattle.console.specs.Reader.{ReadsInto};
-ghost use Rattle.console.specs.Reading.{left};
+ghost use Rattle.console.specs.Reader.{ReadsAs, ReadsInto};
+ghost use Rattle.console.specs.Reading.{left, rest};
 ghost use Rattle.console.specs.SetCalls.{link as link_meant, merge as merge_meant, ChangeRead};
+ghost use Rattle.console.specs.SetLines.{ChangeLine, SetLine};
 ghost use Rattle.console.specs.SetWords.{change_word, set_word, renames_meant};
+ghost use Rattle.console.specs.Templates.{by_parts, id_and_body as id_and_body_meant, id_and_values as id_and_values_meant, policy_kind, TemplateRead, StaticRead, KindRead, PolicyRead};
+ghost use Rattle.console.specs.declared.set_calls.PolicyKind.TheVariants.{Static as kind_static, Link as kind_link};
 
 // Lines on sets: those that change a set are read into calls, which are made and answered.
 use crate::args::Args;
@@ -24,7 +27,9 @@ use names::kept::NameBook;
 use policy::bound::Policy;
 use policy::fixed::StaticPolicy;
 use policy::template::Template;
+use policy::values::SlotEnv;
 use printing::answers::handed_line;
+use refusals::NameNumber;
 
 // The first word of a line that changes a set.
 #[derive(Clone, Copy)]
@@ -44,6 +49,26 @@ pub enum Change {
 pub enum SetWord {
     Change(Change),
     Read(Read),
+}
+
+// The kind of a policy that is added with its template.
+#[derive(Clone, Copy)]
+pub enum PolicyKind {
+    Static,
+    Link,
+}
+
+impl PolicyKind {
+    // The kind that a word names.
+    fn of(word: &[u8]) -> Option<PolicyKind>
+        ensures { result ≡ policy_kind word.now }
+    {
+        match word {
+            b"static" => Some(PolicyKind::Static),
+            b"link" => Some(PolicyKind::Link),
+            _ => None,
+        }
+    }
 }
 
 impl Change {
@@ -78,8 +103,14 @@ impl SetWord {
 }
 
 // Makes one call, as a list of one.
-fn made<B: ClauseBook>(sets: &mut Sets, names: &mut NameBook, clauses: &B, call: Call<'_>) -> Answer
+fn make_call<B: ClauseBook>(
+    sets: &mut Sets,
+    names: &mut NameBook,
+    clauses: &B,
+    call: Call<'_>,
+) -> Answer
     ensures answer { told result ≡ answered (limits_of names.old) B.ClauseBook.equal (B.ClauseBook.listed clauses.now) (state_of sets.old names.old) call.entry }
+    ensures limits { limits_of names.new ≡ limits_of names.old }
     ensures after { state_of sets.new names.new ≡ step (limits_of names.old) B.ClauseBook.equal (B.ClauseBook.listed clauses.now) (state_of sets.old names.old) call.entry }
 {
     let mut answers = [Ok(Handed::Nothing)];
@@ -87,51 +118,88 @@ fn made<B: ClauseBook>(sets: &mut Sets, names: &mut NameBook, clauses: &B, call:
     answers[0]
 }
 
-impl Reader<'_> {
+impl Reader {
+    // ID BODY, to the end of the line
+    fn id_and_body(&mut self, args: &mut Args) -> Result<(NameNumber, Body), Stop>
+        ensures both { ReadsAs by_parts result (texts_of self.new.book) (id_and_body_meant (limits_of self.old.book) (texts_of self.old.book) (left args.old)) }
+        ensures limits { limits_of self.new.book ≡ limits_of self.old.book }
+    {
+        let id = self.id(args)?;
+        let body = Body::read(self, args)?;
+        args.end()?;
+        Ok((id, body))
+    }
+
+    // ID PV RV
+    fn id_and_values(&mut self, args: &mut Args) -> Result<(NameNumber, SlotEnv), Stop>
+        ensures both { ReadsInto result (texts_of self.new.book) (id_and_values_meant (limits_of self.old.book) (texts_of self.old.book) (left args.old)) }
+        ensures limits { limits_of self.new.book ≡ limits_of self.old.book }
+        ensures rest { OnOk result (left args.new ≡ rest (rest (rest (left args.old)))) }
+    {
+        let id = self.id(args)?;
+        Ok((id, self.values(args)?))
+    }
+
     // ID BODY, to the end of the line: a static policy
     fn static_policy<B: ClauseBook>(
         &mut self,
         args: &mut Args,
         clauses: &B,
-    ) -> Result<StaticPolicy, Stop> {
+    ) -> Result<StaticPolicy, Stop>
+        ensures policy { StaticRead (limits_of self.old.book) (texts_of self.old.book) (B.ClauseBook.listed clauses.now) (left args.old) result (texts_of self.new.book) }
+        ensures limits { limits_of self.new.book ≡ limits_of self.old.book }
+    {
         let template = self.template(args, clauses)?;
-        Ok(StaticPolicy::new(template, self.book, clauses)?)
+        Ok(StaticPolicy::new(template, &self.book, clauses)?)
     }
 
     // ID BODY, to the end of the line: a template
-    fn template<B: ClauseBook>(&mut self, args: &mut Args, clauses: &B) -> Result<Template, Stop> {
-        let id = self.id(args)?;
-        let body = Body::read(self, args)?;
-        args.end()?;
-        Ok(body.template(id, self.book, clauses)?)
+    fn template<B: ClauseBook>(&mut self, args: &mut Args, clauses: &B) -> Result<Template, Stop>
+        ensures template { TemplateRead (limits_of self.old.book) (texts_of self.old.book) (B.ClauseBook.listed clauses.now) (left args.old) result (texts_of self.new.book) }
+        ensures limits { limits_of self.new.book ≡ limits_of self.old.book }
+    {
+        let (id, body) = self.id_and_body(args)?;
+        Ok(body.template(id, &self.book, clauses)?)
+    }
+
+    // ID BODY, to the end of the line: the policy that a static one is
+    fn static_alone<B: ClauseBook>(&mut self, args: &mut Args, clauses: &B) -> Result<Policy, Stop>
+        ensures policy { KindRead (limits_of self.old.book) (texts_of self.old.book) (B.ClauseBook.listed clauses.now) kind_static (left args.old) result (texts_of self.new.book) }
+        ensures limits { limits_of self.new.book ≡ limits_of self.old.book }
+    {
+        let policy = self.static_policy(args, clauses)?;
+        let (_, policy) = Template::link_static_policy(policy, &self.book, clauses)?;
+        Ok(policy)
+    }
+
+    // ID PV RV TEMPLATEID BODY, to the end of the line: a link of the template
+    fn link_alone<B: ClauseBook>(&mut self, args: &mut Args, clauses: &B) -> Result<Policy, Stop>
+        ensures policy { KindRead (limits_of self.old.book) (texts_of self.old.book) (B.ClauseBook.listed clauses.now) kind_link (left args.old) result (texts_of self.new.book) }
+        ensures limits { limits_of self.new.book ≡ limits_of self.old.book }
+    {
+        let (id, values) = self.id_and_values(args)?;
+        let template = self.template(args, clauses)?;
+        Ok(template.link(id, values, &self.book, clauses)?)
     }
 
     // static ID BODY, or link ID PV RV TEMPLATEID BODY: a policy
-    fn policy<B: ClauseBook>(&mut self, args: &mut Args, clauses: &B) -> Result<Policy, Stop> {
-        match args.word()? {
-            b"static" => {
-                let policy = self.static_policy(args, clauses)?;
-                let (_, policy) = Template::link_static_policy(policy, self.book, clauses)?;
-                Ok(policy)
-            }
-            b"link" => {
-                let id = self.id(args)?;
-                let values = self.values(args)?;
-                let template = self.template(args, clauses)?;
-                Ok(template.link(id, values, self.book, clauses)?)
-            }
-            _ => Err(Wrong::BadKind.into()),
+    fn policy<B: ClauseBook>(&mut self, args: &mut Args, clauses: &B) -> Result<Policy, Stop>
+        ensures policy { PolicyRead (limits_of self.old.book) (texts_of self.old.book) (B.ClauseBook.listed clauses.now) (left args.old) result (texts_of self.new.book) }
+        ensures limits { limits_of self.new.book ≡ limits_of self.old.book }
+    {
+        match PolicyKind::of(args.word()?).ok_or(Wrong::BadKind)? {
+            PolicyKind::Static => self.static_alone(args, clauses),
+            PolicyKind::Link => self.link_alone(args, clauses),
         }
     }
 
     // TEMPLATEID ID PV RV
     fn link(&mut self, side: Side, args: &mut Args) -> Result<Call<'static>, Stop>
-        ensures call { ReadsInto result (texts_of self.new.book.now) (link_meant (limits_of self.old.book.now) (texts_of self.old.book.now) side (left args.old)) }
-        ensures limits { limits_of self.new.book.now ≡ limits_of self.old.book.now }
+        ensures call { ReadsInto result (texts_of self.new.book) (link_meant (limits_of self.old.book) (texts_of self.old.book) side (left args.old)) }
+        ensures limits { limits_of self.new.book ≡ limits_of self.old.book }
     {
         let template = self.id(args)?;
-        let id = self.id(args)?;
-        let values = self.values(args)?;
+        let (id, values) = self.id_and_values(args)?;
         args.end()?;
         Ok(Call::Link(side, template, id, values))
     }
@@ -144,7 +212,8 @@ impl Reader<'_> {
         args: &mut Args,
         clauses: &B,
     ) -> Result<Call<'static>, Stop>
-        ensures { ChangeRead (limits_of self.old.book.now) (texts_of self.old.book.now) change side (left args.old) result (texts_of self.new.book.now) }
+        ensures call { ChangeRead (limits_of self.old.book) (texts_of self.old.book) (B.ClauseBook.listed clauses.now) change side (left args.old) result (texts_of self.new.book) }
+        ensures limits { limits_of self.new.book ≡ limits_of self.old.book }
     {
         match change {
             Change::Template => Ok(Call::AddTemplate(side, self.template(args, clauses)?)),
@@ -158,6 +227,23 @@ impl Reader<'_> {
         }
     }
 
+    // Makes the call of a line that changes a set, and answers as it is printed.
+    fn change_line<B: ClauseBook>(
+        &mut self,
+        change: Change,
+        side: Side,
+        args: &mut Args,
+        sets: &mut Sets,
+        clauses: &B,
+    ) -> Result<String, Stop>
+        ensures line { ChangeLine (limits_of self.old.book) B.ClauseBook.equal (B.ClauseBook.listed clauses.now) (state_of sets.old self.old.book) change side (left args.old) result (state_of sets.new self.new.book) }
+        ensures limits { limits_of self.new.book ≡ limits_of self.old.book }
+    {
+        let call = self.change(change, side, args, clauses)?;
+        let handed = make_call(sets, &mut self.book, clauses, call)?;
+        Ok(handed_line(self.heap, &self.book, call, &handed)?)
+    }
+
     // Answers a line on a set.
     pub(crate) fn set_line<B: ClauseBook>(
         &mut self,
@@ -166,13 +252,12 @@ impl Reader<'_> {
         args: &mut Args,
         sets: &mut Sets,
         clauses: &B,
-    ) -> Result<String, Stop> {
+    ) -> Result<String, Stop>
+        ensures line { SetLine (limits_of self.old.book) B.ClauseBook.equal (B.ClauseBook.listed clauses.now) (state_of sets.old self.old.book) first side (left args.old) result (state_of sets.new self.new.book) }
+        ensures limits { limits_of self.new.book ≡ limits_of self.old.book }
+    {
         match first {
-            SetWord::Change(change) => {
-                let call = self.change(change, side, args, clauses)?;
-                let handed = made(sets, self.book, clauses, call)?;
-                Ok(handed_line(self.heap, self.book, call, &handed)?)
-            }
+            SetWord::Change(change) => self.change_line(change, side, args, sets, clauses),
             SetWord::Read(read) => self.read_set(read, side, args, sets.set(side), clauses),
         }
     }

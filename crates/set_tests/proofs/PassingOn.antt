@@ -1,5 +1,5 @@
 -- What is found under an id that passes to the next tenant.
-use Rattle.std.proofs.Common.{◌≡◌, ℕ, List, [], ◌∷◌, Some, None, Ok, Err, Option, Result, refl, ap, ◌∙◌, arith, rules}
+use Rattle.std.proofs.Common.{◌≡◌, ℕ, List, [], ◌∷◌, Some, None, Ok, Err, Option, Result, refl, sym, ap, ◌∙◌, arith, rules}
 use Rattle.refusals.specs.declared.refusal.Refusal.{Refusal}
 use Rattle.policy.specs.Arity.{Parts}
 use Rattle.policy.specs.Known.{and_then, names_known}
@@ -51,6 +51,7 @@ pub taken : (count : ℕ) (m m1 m2 : Maps) (id template : ℕ) (values : SlotEnv
     → Vacated m m1 id o → Adds m1 m2 id (policy q) members → m1 ≡ unlink_after count m id
     → Ok q ≡ link_answer count m1 template id values → Taken m m2 id template values (Some q)
 taken count m m1 m2 id template values o q members r a same e = record {
+  in_set = sym (in_force_of (template_at m2 id) (in_force m2 id) q a.names_it);
   is_link = linked count m1 template id values q e
       ∙ ap (changed (link_of_template id values)) (ap (λ n. template_at n template) same ∙ templates_stay count m id template);
   there = refl;

@@ -1,11 +1,13 @@
-use Rattle.std.proofs.Common.{◌≡◌, drop, string_bytes}
+use Rattle.std.proofs.Common.{◌≡◌, length, drop, string_bytes}
 use Rattle.names.specs.Book.{texts}
+use Rattle.policy.specs.Known.{names_known}
 use Rattle.policy_set.specs.Meaning.{maps_of}
 use Rattle.console.specs.Dump.{with_templates}
 use Rattle.console.proofs.dump.push_templates.Given as goal
 
--- The lines so far, and the templates that are left.
+-- The lines so far, what is known so far, and the templates that are left.
 abbrev pub invariant-loop-id : goal.invariant-loop-id
 invariant-loop-id l =
-    with_templates (texts l.book) (maps_of l.set) (string_bytes l.text) (drop l.id-index l.ids)
-    ≡ with_templates (texts l.book) (maps_of l.set) (string_bytes l.fn.text) l.ids
+    (names_known (length (texts l.book)) (drop l.id-index l.ids) ≡ names_known (length (texts l.book)) l.ids)
+    × (with_templates (texts l.book) (maps_of l.set) (string_bytes l.text) (drop l.id-index l.ids)
+    ≡ with_templates (texts l.book) (maps_of l.set) (string_bytes l.fn.text) l.ids)

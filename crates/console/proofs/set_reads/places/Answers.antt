@@ -1,5 +1,5 @@
 use Rattle.std.proofs.Common.{◌≡◌, ◌+◌, ◌-◌, ◌++◌, Some, None, vec_items, sym, subst, arith}
-use Rattle.console.specs.Places.{at_places}
+use Rattle.console.specs.Places.{at_places, all_places}
 use Rattle.console.proofs.AtPlaces.{one_place, last_place, no_place}
 use Rattle.console.proofs.set_reads.places.Goals.{else-loop-place-test, then-loop-place-test+in_default}
 use Rattle.console.proofs.set_reads.places.Goals as goal
@@ -13,6 +13,7 @@ loop-place-preserved g c =
     (law place (Some c.in-Some.item) c.in-Some.ensures))
 
 pub returns : goal.returns
+unfolding all_places
 returns g c =
     λ f law.
     elim c.loop-place-test.branch [

@@ -10,9 +10,9 @@ use Rattle.console.proofs.reader.Reader.entities.Given as goal
 -- The entities so far, and the parts that are left.
 abbrev pub invariant-loop-part : goal.invariant-loop-part
 invariant-loop-part l =
-    (limits_of l.self.book.now ≡ limits_of l.fn.self.book.now)
-    × Under (entity (limits_of l.fn.self.book.now)) (each (entity (limits_of l.fn.self.book.now)) (texts_of l.fn.self.book.now) (slice_split is_comma l.fn.word))
-    (vec_items l.list) (texts_of l.self.book.now) (slice_split is_comma l.rest)
+    (limits_of l.self.book ≡ limits_of l.fn.self.book)
+    × Under (entity (limits_of l.fn.self.book)) (each (entity (limits_of l.fn.self.book)) (texts_of l.fn.self.book) (slice_split is_comma l.fn.word))
+    (vec_items l.list) (texts_of l.self.book) (slice_split is_comma l.rest)
 
 -- What is left gets shorter.
 abbrev pub decreases-loop-part : goal.decreases-loop-part

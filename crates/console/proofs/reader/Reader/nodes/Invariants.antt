@@ -9,6 +9,6 @@ use Rattle.console.proofs.reader.Reader.nodes.Given as goal
 -- The nodes so far, and the words that are left.
 abbrev pub invariant-loop-word : goal.invariant-loop-word
 invariant-loop-word l =
-    (limits_of l.self.book.now ≡ limits_of l.fn.self.book.now)
-    × Under (node_of (limits_of l.fn.self.book.now)) (nodes (limits_of l.fn.self.book.now) (texts_of l.fn.self.book.now) (left l.fn.args))
-    (vec_items l.list) (texts_of l.self.book.now) (left l.word-iterator)
+    (limits_of l.self.book ≡ limits_of l.fn.self.book)
+    × Under (node_of (limits_of l.fn.self.book)) (nodes (limits_of l.fn.self.book) (texts_of l.fn.self.book) (left l.fn.args))
+    (vec_items l.list) (texts_of l.self.book) (left l.word-iterator)
