@@ -1,2 +1,4 @@
+pub mod Ended
+pub mod Growth
+pub mod Linking
 pub mod Middle
-pub mod Turns

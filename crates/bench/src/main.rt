@@ -4,6 +4,7 @@
 // prints what each takes. A second argument names the only unit that is wanted.
 mod books;
 mod full_set;
+mod link;
 mod middle;
 mod parties;
 mod report;

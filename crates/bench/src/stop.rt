@@ -1,4 +1,8 @@
 // Why a run ends early.
+ghost use Rattle.std.specs.Prelude.{◌≡◌};
+ghost use Rattle.refusals.specs.declared.refusal.Refusal.TheVariants.{UnknownName as Unknown};
+ghost use Rattle.bench.specs.declared.stop.Stop.TheVariants.{Refused as Declined};
+
 use refusals::refusal::{Refusal, UnknownName};
 use std::alloc::{AllocError, AllocFailed};
 use std::io;
@@ -17,12 +21,16 @@ pub enum Stop {
 }
 
 impl From<Refusal> for Stop {
+    ghost from_gives = { λ refusal stop. stop ≡ Declined refusal };
+
     fn from(refusal: Refusal) -> Stop {
         Stop::Refused(refusal)
     }
 }
 
 impl From<UnknownName> for Stop {
+    ghost from_gives = { λ unknown stop. stop ≡ Declined (Unknown unknown.number) };
+
     fn from(unknown: UnknownName) -> Stop {
         Stop::Refused(unknown.into())
     }

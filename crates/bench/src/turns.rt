@@ -1,6 +1,5 @@
 // Things that are asked for in turn.
-ghost use Rattle.std.specs.Prelude.{◌≡◌, ◌<◌, ◌+◌, ◌%◌};
-ghost use Rattle.bench.specs.Turns.{IsAt};
+ghost use Rattle.std.specs.Prelude.{◌≡◌, ◌<◌, ◌+◌, ◌%◌, slice_get};
 
 // The things, and the place of the one whose turn it is.
 #[derive(Drop)]
@@ -22,7 +21,7 @@ impl<T: Copy + Drop, const N: usize> Turns<T, N> {
 
     // The thing whose turn it is. After it comes the one behind it, and after the last the first.
     pub(crate) fn next(&mut self) -> T
-        ensures thing { IsAt self.old.things self.old.turn result }
+        ensures thing { slice_get self.old.things self.old.turn ≡ Some result }
         ensures turn { self.new.turn ≡ (self.old.turn + 1) % N }
         ensures things { self.new.things ≡ self.old.things }
     {

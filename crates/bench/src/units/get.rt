@@ -1,10 +1,11 @@
-ghost use Rattle.std.specs.Prelude.{◌≡◌, length, Ok, IfOk};
+ghost use Rattle.std.specs.Prelude.{◌≡◌, ◌+◌, ◌%◌, length, IsSomeAnd, slice_get};
+ghost use Rattle.std.specs.Result.{result_unwrap_or};
 ghost use Rattle.names.specs.Book.{texts};
 ghost use Rattle.policy.specs.Arity.{parts};
 ghost use Rattle.policy_set.specs.Answers.{get_answer};
 ghost use Rattle.policy_set.specs.Maps.{changed};
 ghost use Rattle.policy_set.specs.Meaning.{maps_of};
-ghost use Rattle.bench.specs.Turns.{IsAt};
+ghost use Rattle.bench.specs.Ended.{ended};
 
 use crate::books::{Books, CLAUSE};
 use crate::full_set::{FULL, full_set};
@@ -50,23 +51,23 @@ impl Get {
             found: None,
         })
     }
-
-    // Asks for the policy of the id whose turn it is; the id.
-    fn ask(&mut self) -> Result<NameNumber, Stop>
-        ensures asked { IfOk result (λ id. IsAt self.old.ids.things self.old.ids.turn id) }
-        ensures found { IfOk result (λ id. Ok (changed parts self.new.found) ≡ get_answer (length (texts self.old.books.names)) (maps_of self.old.set) id) }
-    {
-        let id = self.ids.next();
-        self.found = self.set.get(id, &self.books.names)?;
-        Ok(id)
-    }
 }
 
 impl Unit for Get {
     const NAME: &'static str = "get";
 
-    // The policy is kept, so that no build can leave out handing it over.
-    fn work(&mut self) -> Result<usize, Stop> {
-        Ok(self.ask()? as usize)
+    // Asks for the policy of the id whose turn it is; the id. The policy is kept, so that no build can leave out handing
+    // it over.
+    fn work(&mut self) -> Result<usize, Stop>
+        ensures answer { IsSomeAnd (slice_get self.old.ids.things self.old.ids.turn) (λ id. result ≡ ended id (get_answer (length (texts self.old.books.names)) (maps_of self.old.set) id)) }
+        ensures found { IsSomeAnd (slice_get self.old.ids.things self.old.ids.turn) (λ id. changed parts self.new.found ≡ result_unwrap_or (get_answer (length (texts self.old.books.names)) (maps_of self.old.set) id) (changed parts self.old.found)) }
+        ensures books { self.new.books ≡ self.old.books }
+        ensures set { self.new.set ≡ self.old.set }
+        ensures turn { self.new.ids.turn ≡ (self.old.ids.turn + 1) % 256 }
+        ensures things { self.new.ids.things ≡ self.old.ids.things }
+    {
+        let id = self.ids.next();
+        self.found = self.set.get(id, &self.books.names)?;
+        Ok(id as usize)
     }
 }

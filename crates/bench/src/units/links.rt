@@ -1,11 +1,14 @@
-ghost use Rattle.std.specs.Prelude.{◌≡◌, length, Ok, IfOk, IsSomeAnd};
+ghost use Rattle.std.specs.Prelude.{◌≡◌, ◌+◌, ◌%◌, length, IfOk, IsSomeAnd, slice_get};
 ghost use Rattle.names.specs.Book.{texts};
 ghost use Rattle.policy.specs.Arity.{parts};
-ghost use Rattle.policy_set.specs.Answers.{link_answer, link_after, unlink_after};
+ghost use Rattle.policy_set.specs.Maps.{changed};
 ghost use Rattle.policy_set.specs.Meaning.{maps_of};
+ghost use Rattle.bench.specs.Ended.{ended, kept};
+ghost use Rattle.bench.specs.Linking.{linked, unlinked, without_link};
 
 use crate::books::{Books, CLAUSE};
 use crate::full_set::{Size, full_set};
+use crate::link::Link;
 use crate::rng::Rng;
 use crate::stop::Stop;
 use crate::turns::Turns;
@@ -23,13 +26,7 @@ const ROOM_FOR_ONE: Size = Size {
     links: 223,
 };
 
-// What `link` is given.
-#[derive(Clone, Copy, Default)]
-struct Link {
-    template: NameNumber,
-    id: NameNumber,
-    values: SlotEnv,
-}
+const _: () = prove!(ROOM_FOR_ONE.templates - ROOM_FOR_ONE.slotted + ROOM_FOR_ONE.links == 255);
 
 // The last place of a full set is linked, and unlinked again.
 #[derive(Drop)]
@@ -79,26 +76,26 @@ impl LinkUnlink {
     }
 }
 
-impl LinkUnlink {
-    // Makes a link and removes it again.
-    fn link_and_unlink(&mut self, link: Link) -> Result<(), Stop>
-        ensures linked { IfOk result (λ _. IsSomeAnd self.new.linked (λ policy. Ok (parts policy) ≡ link_answer (length (texts self.old.books.names)) (maps_of self.old.set) link.template link.id link.values)) }
-        ensures after { IfOk result (λ _. maps_of self.new.set ≡ unlink_after (length (texts self.old.books.names)) (link_after (length (texts self.old.books.names)) (maps_of self.old.set) link.template link.id link.values) link.id) }
-    {
-        let names = &self.books.names;
-        self.linked = Some(self.set.link(link.template, link.id, link.values, names)?);
-        self.unlinked = Some(self.set.unlink(link.id, names)?);
-        Ok(())
-    }
-}
-
 impl Unit for LinkUnlink {
     const NAME: &'static str = "link_unlink_full";
 
-    // Both policies are kept, so that no build can leave out handing them over.
-    fn work(&mut self) -> Result<usize, Stop> {
+    // Makes the link whose turn it is and removes it again; the link's id. Both policies are kept, so that no build can
+    // leave out handing them over.
+    fn work(&mut self) -> Result<usize, Stop>
+        ensures answer { IsSomeAnd (slice_get self.old.links.things self.old.links.turn) (λ link. result ≡ ended link.id (unlinked (length (texts self.old.books.names)) (maps_of self.old.set) link)) }
+        ensures linked { IsSomeAnd (slice_get self.old.links.things self.old.links.turn) (λ link. changed parts self.new.linked ≡ kept (changed parts self.old.linked) (linked (length (texts self.old.books.names)) (maps_of self.old.set) link)) }
+        ensures unlinked { IsSomeAnd (slice_get self.old.links.things self.old.links.turn) (λ link. changed parts self.new.unlinked ≡ kept (changed parts self.old.unlinked) (unlinked (length (texts self.old.books.names)) (maps_of self.old.set) link)) }
+        ensures after { IsSomeAnd (slice_get self.old.links.things self.old.links.turn) (λ link. maps_of self.new.set ≡ without_link (length (texts self.old.books.names)) (maps_of self.old.set) link) }
+        ensures back { IfOk result (λ _. maps_of self.new.set ≡ maps_of self.old.set) }
+        ensures same { IfOk result (λ _. changed parts self.new.unlinked ≡ changed parts self.new.linked) }
+        ensures books { self.new.books ≡ self.old.books }
+        ensures turn { self.new.links.turn ≡ (self.old.links.turn + 1) % 16 }
+        ensures things { self.new.links.things ≡ self.old.links.things }
+    {
         let link = self.links.next();
-        self.link_and_unlink(link)?;
+        let names = &self.books.names;
+        self.linked = Some(self.set.link(link.template, link.id, link.values, names)?);
+        self.unlinked = Some(self.set.unlink(link.id, names)?);
         Ok(link.id as usize)
     }
 }

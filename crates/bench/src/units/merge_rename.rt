@@ -14,6 +14,10 @@ const HALF: Size = Size {
     links: 112,
 };
 
+const _: () = prove!(2 * HALF.templates == 64);
+
+const _: () = prove!(2 * (HALF.templates - HALF.slotted + HALF.links) == 256);
+
 // Two sets with the same ids for unequal contents.
 #[derive(Drop)]
 struct Pair {
