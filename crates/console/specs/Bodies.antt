@@ -8,7 +8,7 @@ use Rattle.policy.specs.declared.constraint.Effect.{Effect}
 use Rattle.policy.specs.declared.constraint.PrincipalOrResourceConstraint.{PrincipalOrResourceConstraint}
 use Rattle.console.specs.Actions.{action_read, listed}
 use Rattle.console.specs.Reader.{Reading, given, next, if_some, scope_read, effect_of, clause_of}
-use Rattle.console.specs.Reading.{rest, next_word}
+use Rattle.console.specs.Args.{rest, next_word}
 use Rattle.console.specs.declared.body.Body.{Body}
 
 -- The parts, the action's list by its items.

@@ -9,7 +9,7 @@ use Rattle.clauses.specs.declared.tree.node.Node.{Node}
 use Rattle.console.specs.Answered.{AnswersAs}
 use Rattle.console.specs.Nodes.{nodes}
 use Rattle.console.specs.Reader.{Reading, wrong, ReadsAs, ReadsInto, made, answered, if_some, if_end}
-use Rattle.console.specs.Reading.{rest, next_text}
+use Rattle.console.specs.Args.{rest, next_text}
 use Rattle.console.specs.declared.stop.Stop.{Stop}
 use Rattle.console.specs.declared.stop.Wrong.{Wrong}
 

@@ -1,15 +1,17 @@
 pub mod Actions
 pub mod Answered
+pub mod Args
 pub mod Bodies
 pub mod ClauseLines
 pub mod Dump
 pub mod Line
+pub mod Lines
 pub mod Listings
 pub mod Naming
 pub mod Nodes
 pub mod Places
+pub mod Printed
 pub mod Reader
-pub mod Reading
 pub mod Room
 pub mod SetCalls
 pub mod SetLines
@@ -18,4 +20,3 @@ pub mod SetWords
 pub mod Settling
 pub mod TemplateLines
 pub mod Templates
-pub mod Told

@@ -2,7 +2,7 @@
 use Rattle.std.specs.Prelude.{◌≡◌, ℕ, cond, List, [], ◌∷◌, Some, None, Ok, Err, vec_items, codes, Option, Result}
 use Rattle.std.specs.Option.{option_map}
 use Rattle.std.specs.Str.{bytes_eq}
-use Rattle.console.specs.Reading.{rest, next_text, next_number}
+use Rattle.console.specs.Args.{rest, next_text, next_number}
 use Rattle.console.specs.declared.stop.Stop.{Stop}
 use Rattle.console.specs.declared.stop.Stop.TheVariants.{Wrong, Refused, NoMemory}
 use Rattle.console.specs.declared.name_calls.NameWord.{NameWord}

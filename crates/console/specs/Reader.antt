@@ -15,7 +15,7 @@ use Rattle.policy.specs.declared.values.SlotEnv.{SlotEnv}
 use Rattle.script.specs.Number.{numeral, at_most}
 use Rattle.script.specs.Parts.{split_once}
 use Rattle.script.specs.Percent.{decoded}
-use Rattle.console.specs.Reading.{rest, next_word}
+use Rattle.console.specs.Args.{rest, next_word}
 use Rattle.console.specs.declared.reader.ScopeKind.{ScopeKind}
 use Rattle.console.specs.declared.reader.ScopeKind.TheVariants as kind
 use Rattle.console.specs.declared.stop.Stop.{Stop}

@@ -7,7 +7,7 @@ use Rattle.calls.specs.declared.call.Call.{Call}
 use Rattle.calls.specs.declared.call.Call.TheVariants as call
 use Rattle.calls.specs.declared.call.Side.{Side}
 use Rattle.calls.specs.declared.call.Side.TheVariants.{A, B}
-use Rattle.console.specs.Reading.{rest, next_word, side_of}
+use Rattle.console.specs.Args.{rest, next_word, side_of}
 use Rattle.console.specs.Room.{room}
 use Rattle.console.specs.Reader.{Reading, given, ReadsInto, next, made, if_some, at_end, id, last_id}
 use Rattle.console.specs.declared.set_calls.Change.{Change}

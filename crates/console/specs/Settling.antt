@@ -17,7 +17,7 @@ abbrev pub kind_then : Option Kind → Kind → Kind
 kind_then None kind = kind
 kind_then (Some first) kind = first
 
--- What settling a clause's kind answers: no clause comes behind a call on a set.
+-- What settling a clause's kind answers: no clause comes behind a line that names a set.
 abbrev pub settled : Bool → Option Kind → Kind → Result (Unit {0}) Wrong
 settled true first kind = Err LateClause
 settled false first kind = same_kind (kind_then first kind) kind

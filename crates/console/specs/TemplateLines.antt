@@ -17,7 +17,7 @@ use Rattle.printing.specs.Nodes.{node_word}
 use Rattle.console.specs.Answered.{AnswersAs}
 use Rattle.console.specs.Bodies.{TemplateParts, parts_of, body}
 use Rattle.console.specs.Reader.{Reading, given, ReadsInto, next, made, answered, if_some, at_end, values}
-use Rattle.console.specs.Reading.{rest}
+use Rattle.console.specs.Args.{rest}
 use Rattle.console.specs.Room.{room}
 use Rattle.console.specs.Templates.{GoesOn, MakesTemplate}
 use Rattle.console.specs.declared.body.Body.{Body}
@@ -49,14 +49,14 @@ body_and_room limits texts words =
     next (body limits texts words) (λ parts after. if_some (room 27 (behind_body words)) after (λ places. given (parts, places) after))
 
 -- A line where something was answered.
-abbrev pub printed : {X : Type 0} → Result X Refusal → List ℕ → Result (List ℕ) Refusal
-printed (Ok x) line = Ok line
-printed (Err refusal) line = Err refusal
+abbrev pub shown : {X : Type 0} → Result X Refusal → List ℕ → Result (List ℕ) Refusal
+shown (Ok x) line = Ok line
+shown (Err refusal) line = Err refusal
 
 -- The nodes of a condition: refusals 1 and 2 of the template, and 24 where there is too little room for all.
 abbrev pub condition_line : {C : Type 0} → List (List ℕ) → List (Clause C) → Template → ℕ → Result (List ℕ) Refusal
 condition_line texts cs t places =
-    printed (condition_answer (length texts) cs t places) (counted_line (map (node_word texts) (written (condition_tree cs t))))
+    shown (condition_answer (length texts) cs t places) (counted_line (map (node_word texts) (written (condition_tree cs t))))
 
 -- `condition BODY [ROOM]`: `ok N NODE ...`
 abbrev pub ConditionRead : {C : Type 0} → Limits → List (List ℕ) → List (Clause C) → List (List ℕ) → Result (String Global) Stop → List (List ℕ) → Type 0

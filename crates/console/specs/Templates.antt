@@ -23,7 +23,7 @@ use Rattle.policy_set.specs.Answers.{static_parts}
 use Rattle.console.specs.Answered.{AnswersAs}
 use Rattle.console.specs.Bodies.{TemplateParts, parts_of, body}
 use Rattle.console.specs.Reader.{Reading, wrong, ReadsInto, next, made, at_end, id, values}
-use Rattle.console.specs.Reading.{rest, next_word}
+use Rattle.console.specs.Args.{rest, next_word}
 use Rattle.console.specs.declared.body.Body.{Body}
 use Rattle.console.specs.declared.set_calls.PolicyKind.{PolicyKind}
 use Rattle.console.specs.declared.set_calls.PolicyKind.TheVariants as kind

@@ -5,7 +5,7 @@ ghost use Rattle.std.specs.Result.{result_ok};
 ghost use Rattle.script.specs.Words.{words as words_of};
 ghost use Rattle.script.specs.Number.{numeral};
 ghost use Rattle.console.specs.Room.{room};
-ghost use Rattle.console.specs.Reading.{left, rest, next_word, next_text, next_number, Reads};
+ghost use Rattle.console.specs.Args.{left, rest, next_word, next_text, next_number, Reads};
 
 use crate::stop::{Stop, Wrong};
 use refusals::NameNumber;
@@ -82,7 +82,8 @@ impl<'a> Args<'a> {
         }
     }
 
-    // How many places the caller's buffer has, to the end of the line: without a word, or with more, as many as can be needed.
+    // How many places the caller's buffer has, to the end of the line: without a word, or with a larger number, as many as
+    // can be needed.
     pub fn room(&mut self, most: u32) -> Result<usize, Wrong>
         ensures room { result_ok result ≡ room most (left self.old) }
         ensures most { IfOk result (λ room. room ≤ most) }

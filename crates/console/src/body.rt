@@ -2,7 +2,7 @@ ghost use Rattle.std.specs.Prelude.{◌≡◌, OnOk};
 ghost use Rattle.names.specs.Book.{texts as texts_of, limits as limits_of};
 ghost use Rattle.console.specs.Bodies.{body as body_meant, parts_of};
 ghost use Rattle.console.specs.Reader.{ReadsAs};
-ghost use Rattle.console.specs.Reading.{left, rest};
+ghost use Rattle.console.specs.Args.{left, rest};
 ghost use Rattle.console.specs.Templates.{MakesOf};
 
 // The parts of a template as a line has them.

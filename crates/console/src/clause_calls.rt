@@ -5,9 +5,10 @@ ghost use Rattle.clauses.specs.SealedBooks.{texts as sealed_of};
 ghost use Rattle.clauses.specs.TreeBooks.{trees as trees_of};
 ghost use Rattle.calls.specs.Meaning.{state_of};
 ghost use Rattle.console.specs.ClauseLines.{sealed_line, TreeLine};
+ghost use Rattle.console.specs.Lines.{clause_word};
 ghost use Rattle.console.specs.Nodes.{plain_node as plain_node_meant, node_of, nodes as nodes_meant};
 ghost use Rattle.console.specs.Reader.{ReadsInto, ReadsAs};
-ghost use Rattle.console.specs.Reading.{left, rest, next_word, side_of};
+ghost use Rattle.console.specs.Args.{left, rest, next_word, side_of};
 ghost use Rattle.console.specs.SetLines.{OnSet, closed_after};
 ghost use Rattle.console.specs.Settling.{settled, kind_after};
 ghost use Rattle.console.specs.TemplateLines.{ConditionOn, BindingOn};
@@ -41,6 +42,30 @@ pub struct Clauses {
     kind: Option<Kind>,
     // Whether a line has named a set, behind which no clause comes.
     closed: bool,
+}
+
+// The first word of a line on clauses or on a template.
+#[derive(Clone, Copy)]
+pub enum ClauseWord {
+    Clause,
+    Tree,
+    Condition,
+    Binding,
+}
+
+impl ClauseWord {
+    // What a line's first word does with clauses; none where it does nothing with them.
+    pub(crate) fn of(head: &[u8]) -> Option<ClauseWord>
+        ensures { result ≡ clause_word head.now }
+    {
+        match head {
+            b"clause" => Some(ClauseWord::Clause),
+            b"tree" => Some(ClauseWord::Tree),
+            b"condition" => Some(ClauseWord::Condition),
+            b"binding" => Some(ClauseWord::Binding),
+            _ => None,
+        }
+    }
 }
 
 // The node that a word is by itself: the words are the console's format and not the library's, so they are no `TryFrom` of `Node`

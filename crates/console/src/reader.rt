@@ -3,7 +3,7 @@ ghost use Rattle.std.specs.Result.{result_ok};
 ghost use Rattle.names.specs.Book.{texts as texts_of, limits as limits_of};
 ghost use Rattle.script.specs.PartsLent.{lent_parts};
 ghost use Rattle.console.specs.Reader.{ReadsInto, name as name_meant, id as id_meant, last_id as last_id_meant, entity as entity_meant, reference as reference_meant, type_in as type_in_meant, scope_read as scope_meant, value as value_meant, values as values_meant, effect_of, clause_of, around_lone_colon as around_meant, lone, lone_from, scope_kind};
-ghost use Rattle.console.specs.Reading.{side_of, left, rest};
+ghost use Rattle.console.specs.Args.{side_of, left, rest};
 
 // The words of a line that stand for entities, scopes and values.
 use crate::args::Args;

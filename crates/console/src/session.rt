@@ -1,8 +1,14 @@
-ghost use Rattle.names.specs.Book.{texts as texts_of};
-ghost use Rattle.console.specs.Told.{Told};
+ghost use Rattle.std.specs.Prelude.{◌≡◌, IfOk};
+ghost use Rattle.names.specs.Book.{texts as texts_of, limits as limits_of};
+ghost use Rattle.script.specs.Words.{words as words_of};
+ghost use Rattle.console.specs.Args.{left};
+ghost use Rattle.console.specs.Line.{name_word};
+ghost use Rattle.console.specs.Lines.{is_comment as is_comment_meant, clause_word, Begins, OnNames, OnClauses, CallOf, LineOf, LinePrinted};
+ghost use Rattle.console.specs.Printed.{Printed};
+ghost use Rattle.console.specs.SetWords.{set_word};
 
 use crate::args::Args;
-use crate::clause_calls::Clauses;
+use crate::clause_calls::{ClauseWord, Clauses};
 use crate::name_calls::NameWord;
 use crate::reader::Reader;
 use crate::set_calls::SetWord;
@@ -22,12 +28,12 @@ pub struct Session {
 }
 
 // The line of an answer, or of why there is none; no line where there is nothing to answer.
-fn told(
+fn printed(
     heap: Global,
     book: &NameBook,
     answer: Result<Option<String>, Stop>,
 ) -> Result<Option<String>, AllocError>
-    ensures { Told (texts_of book.now) answer result }
+    ensures { Printed (texts_of book.now) answer result }
 {
     match answer {
         Ok(line) => Ok(line),
@@ -40,9 +46,18 @@ fn told(
     }
 }
 
+// Whether a line's first word begins a comment.
+fn is_comment(head: &[u8]) -> bool
+    ensures { result ≡ is_comment_meant head.now }
+{
+    matches!(head, [b'#', ..])
+}
+
 impl Session {
     // A run on empty books.
-    pub(crate) fn new(heap: Global) -> Result<Session, AllocError> {
+    pub(crate) fn new(heap: Global) -> Result<Session, AllocError>
+        ensures { IfOk result (λ session. Begins session) }
+    {
         let book = NameBook::new(heap, PLACES, ROOM)?;
         let clauses = Clauses::new(heap)?;
         Ok(Session {
@@ -52,37 +67,66 @@ impl Session {
         })
     }
 
+    // Answers a line on names.
+    fn name_line(&mut self, first: NameWord, args: &mut Args) -> Result<String, Stop>
+        ensures line { OnNames self.old first (left args.old) result self.new }
+        ensures limits { limits_of self.new.reader.book ≡ limits_of self.old.reader.book }
+    {
+        let call = first.read(args)?;
+        call.make(self.reader.heap, &mut self.reader.book)
+    }
+
+    // Answers a line on clauses or on a template.
+    fn clause_line(&mut self, word: ClauseWord, args: &mut Args) -> Result<String, Stop>
+        ensures line { OnClauses self.old word (left args.old) result self.new }
+        ensures limits { limits_of self.new.reader.book ≡ limits_of self.old.reader.book }
+    {
+        let reader = &mut self.reader;
+        match word {
+            ClauseWord::Clause => self.clauses.clause(reader.heap, args),
+            ClauseWord::Tree => self.clauses.tree(reader, args),
+            ClauseWord::Condition => self.clauses.condition(reader, args),
+            ClauseWord::Binding => self.clauses.binding(reader, args),
+        }
+    }
+
+    // Answers a line by its first word.
+    fn call_line(&mut self, head: &[u8], args: &mut Args) -> Result<String, Stop>
+        ensures line { CallOf self.old (name_word head.now) (clause_word head.now) (set_word head.now) (left args.old) result self.new }
+        ensures limits { limits_of self.new.reader.book ≡ limits_of self.old.reader.book }
+    {
+        if let Some(first) = NameWord::of(head) {
+            return self.name_line(first, args);
+        }
+        if let Some(word) = ClauseWord::of(head) {
+            return self.clause_line(word, args);
+        }
+        let first = SetWord::of(head).ok_or(Wrong::UnknownCall)?;
+        self.clauses
+            .set_line(first, &mut self.reader, args, &mut self.sets)
+    }
+
     // Makes the call of a line; no answer to a blank line or a comment.
-    fn call(&mut self, line: &[u8]) -> Result<Option<String>, Stop> {
+    fn call(&mut self, line: &[u8]) -> Result<Option<String>, Stop>
+        ensures line { LineOf self.old (words_of line.now) result self.new }
+        ensures limits { limits_of self.new.reader.book ≡ limits_of self.old.reader.book }
+    {
         let mut args = Args::new(self.reader.heap, line);
         let Some(head) = args.next() else {
             return Ok(None);
         };
-        if head.starts_with(b"#") {
+        if is_comment(head) {
             return Ok(None);
         }
-        if let Some(first) = NameWord::of(head) {
-            let call = first.read(&mut args)?;
-            return Ok(Some(call.make(self.reader.heap, &mut self.reader.book)?));
-        }
-        let reader = &mut self.reader;
-        let answer = match head {
-            b"clause" => self.clauses.clause(reader.heap, &mut args)?,
-            b"tree" => self.clauses.tree(reader, &mut args)?,
-            b"condition" => self.clauses.condition(reader, &mut args)?,
-            b"binding" => self.clauses.binding(reader, &mut args)?,
-            _ => {
-                let first = SetWord::of(head).ok_or(Wrong::UnknownCall)?;
-                self.clauses
-                    .set_line(first, reader, &mut args, &mut self.sets)?
-            }
-        };
-        Ok(Some(answer))
+        Ok(Some(self.call_line(head, &mut args)?))
     }
 
     // The answer to a line, without its line feed.
-    pub(crate) fn answer(&mut self, line: &[u8]) -> Result<Option<String>, AllocError> {
+    pub(crate) fn answer(&mut self, line: &[u8]) -> Result<Option<String>, AllocError>
+        ensures line { LinePrinted self.old (words_of line.now) result self.new }
+        ensures limits { limits_of self.new.reader.book ≡ limits_of self.old.reader.book }
+    {
         let answer = self.call(line);
-        told(self.reader.heap, &self.reader.book, answer)
+        printed(self.reader.heap, &self.reader.book, answer)
     }
 }

@@ -5,7 +5,7 @@ ghost use Rattle.names.specs.Book.{limits as limits_of};
 ghost use Rattle.calls.specs.Model.{told, answered, step};
 ghost use Rattle.calls.specs.Meaning.{state_of};
 ghost use Rattle.console.specs.Reader.{ReadsAs, ReadsInto};
-ghost use Rattle.console.specs.Reading.{left, rest};
+ghost use Rattle.console.specs.Args.{left, rest};
 ghost use Rattle.console.specs.SetCalls.{link as link_meant, merge as merge_meant, ChangeRead};
 ghost use Rattle.console.specs.SetLines.{ChangeLine, SetLine};
 ghost use Rattle.console.specs.SetWords.{change_word, set_word, renames_meant};
@@ -163,7 +163,11 @@ impl Reader {
     }
 
     // ID BODY, to the end of the line: the policy that a static one is
-    fn static_alone<B: ClauseBook>(&mut self, args: &mut Args, clauses: &B) -> Result<Policy, Stop>
+    fn static_as_policy<B: ClauseBook>(
+        &mut self,
+        args: &mut Args,
+        clauses: &B,
+    ) -> Result<Policy, Stop>
         ensures policy { KindRead (limits_of self.old.book) (texts_of self.old.book) (B.ClauseBook.listed clauses.now) kind_static (left args.old) result (texts_of self.new.book) }
         ensures limits { limits_of self.new.book ≡ limits_of self.old.book }
     {
@@ -173,7 +177,11 @@ impl Reader {
     }
 
     // ID PV RV TEMPLATEID BODY, to the end of the line: a link of the template
-    fn link_alone<B: ClauseBook>(&mut self, args: &mut Args, clauses: &B) -> Result<Policy, Stop>
+    fn link_with_template<B: ClauseBook>(
+        &mut self,
+        args: &mut Args,
+        clauses: &B,
+    ) -> Result<Policy, Stop>
         ensures policy { KindRead (limits_of self.old.book) (texts_of self.old.book) (B.ClauseBook.listed clauses.now) kind_link (left args.old) result (texts_of self.new.book) }
         ensures limits { limits_of self.new.book ≡ limits_of self.old.book }
     {
@@ -188,8 +196,8 @@ impl Reader {
         ensures limits { limits_of self.new.book ≡ limits_of self.old.book }
     {
         match PolicyKind::of(args.word()?).ok_or(Wrong::BadKind)? {
-            PolicyKind::Static => self.static_alone(args, clauses),
-            PolicyKind::Link => self.link_alone(args, clauses),
+            PolicyKind::Static => self.static_as_policy(args, clauses),
+            PolicyKind::Link => self.link_with_template(args, clauses),
         }
     }
 

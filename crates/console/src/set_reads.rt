@@ -9,7 +9,7 @@ ghost use Rattle.console.specs.Dump.{or_none};
 ghost use Rattle.console.specs.Listings.{ids_under_answer};
 ghost use Rattle.console.specs.Places.{all_places};
 ghost use Rattle.console.specs.Reader.{ReadsAs};
-ghost use Rattle.console.specs.Reading.{left};
+ghost use Rattle.console.specs.Args.{left};
 ghost use Rattle.console.specs.SetReads.{policies as policies_meant, templates as templates_meant, links as links_meant, filled_line as filled_line_meant, filled as filled_meant, validate as validate_meant, dump as dump_meant, set_read};
 ghost use Rattle.console.specs.SetWords.{read_word};
 

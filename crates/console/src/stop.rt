@@ -1,6 +1,6 @@
 ghost use Rattle.std.specs.Prelude.{◌≡◌, Some as Present, codes};
 ghost use Rattle.refusals.specs.declared.refusal.Refusal.TheVariants.{UnknownName as Unlisted};
-ghost use Rattle.console.specs.Told.{wrong_text};
+ghost use Rattle.console.specs.Printed.{wrong_text};
 ghost use Rattle.console.specs.declared.stop.Stop.TheVariants.{Wrong as Broken, Refused as Declined, NoMemory as Exhausted};
 
 use refusals::refusal::{Refusal, UnknownName};

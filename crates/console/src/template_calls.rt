@@ -3,7 +3,7 @@ ghost use Rattle.names.specs.Book.{texts as texts_of, limits as limits_of};
 ghost use Rattle.console.specs.Answered.{AnswersAs};
 ghost use Rattle.console.specs.Bodies.{parts_of};
 ghost use Rattle.console.specs.Reader.{ReadsAs, answered};
-ghost use Rattle.console.specs.Reading.{left};
+ghost use Rattle.console.specs.Args.{left};
 ghost use Rattle.console.specs.TemplateLines.{own_id as own_id_meant, OwnTemplate, body_and as body_and_meant, body_and_room as body_and_room_meant, body_and_values as body_and_values_meant, condition_line as condition_line_meant, ConditionRead, BindingRead};
 
 // Lines that make a template and ask for its condition or its binding.

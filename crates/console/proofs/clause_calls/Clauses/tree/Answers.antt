@@ -6,7 +6,7 @@ use Rattle.clauses.specs.TreeBooks.{trees}
 use Rattle.clauses.specs.TreeEntering.{tree_answer}
 use Rattle.console.specs.Answered.{AnswersAs}
 use Rattle.console.specs.ClauseLines.{TreeLine, clause_answer}
-use Rattle.console.specs.Reading.{left}
+use Rattle.console.specs.Args.{left}
 use Rattle.console.specs.declared.stop.Wrong.{Wrong}
 use Rattle.console.proofs.Errors.{same_error}
 use Rattle.console.proofs.TreeEntered.{entered}

@@ -2,7 +2,7 @@ use Rattle.std.proofs.Common.{◌≡◌, ◌≢◌, [], Err, subst, sym, rules}
 use Rattle.names.specs.Book.{texts, limits}
 use Rattle.console.specs.Bodies.{parts_of}
 use Rattle.console.specs.Reader.{ReadsAs, given, made, values}
-use Rattle.console.specs.Reading.{left, rest}
+use Rattle.console.specs.Args.{left, rest}
 use Rattle.console.specs.TemplateLines.{body_and, behind_body, body_and_values}
 use Rattle.console.specs.declared.stop.Stop.TheVariants.{Wrong}
 use Rattle.console.proofs.Errors.{fails_first, second_fails, over}

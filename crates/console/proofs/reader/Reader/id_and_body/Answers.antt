@@ -2,7 +2,7 @@ use Rattle.std.proofs.Common.{◌≡◌, ◌≢◌, [], Err, rules}
 use Rattle.names.specs.Book.{texts, limits}
 use Rattle.console.specs.Bodies.{body, parts_of}
 use Rattle.console.specs.Reader.{ReadsAs, given}
-use Rattle.console.specs.Reading.{left, rest}
+use Rattle.console.specs.Args.{left, rest}
 use Rattle.console.specs.Templates.{by_parts}
 use Rattle.console.specs.declared.stop.Stop.TheVariants.{Wrong}
 use Rattle.console.proofs.Errors.{second_fails, over}

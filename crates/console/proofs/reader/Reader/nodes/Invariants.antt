@@ -2,7 +2,7 @@ use Rattle.std.proofs.Common.{◌≡◌, vec_items}
 use Rattle.names.specs.Book.{texts as texts_of}
 use Rattle.names.specs.Book.{limits as limits_of}
 use Rattle.console.specs.Nodes.{node_of, nodes}
-use Rattle.console.specs.Reading.{left}
+use Rattle.console.specs.Args.{left}
 use Rattle.console.proofs.EachRead.{Under}
 use Rattle.console.proofs.reader.Reader.nodes.Given as goal
 

@@ -3,7 +3,7 @@ use Rattle.names.specs.Book.{texts}
 use Rattle.printing.specs.Answers.{policies_line}
 use Rattle.console.specs.Places.{all_places}
 use Rattle.console.specs.Reader.{given}
-use Rattle.console.specs.Reading.{left}
+use Rattle.console.specs.Args.{left}
 use Rattle.console.proofs.Ended.{wrong_end}
 use Rattle.console.proofs.reader.Reader.policies.Goals as goal
 

@@ -4,7 +4,7 @@ use Rattle.policy_set.specs.Listing.{templates_answer}
 use Rattle.policy_set.specs.Meaning.{maps_of}
 use Rattle.console.specs.Listings.{ids_line, templates}
 use Rattle.console.specs.Reader.{given}
-use Rattle.console.specs.Reading.{left}
+use Rattle.console.specs.Args.{left}
 use Rattle.console.proofs.Ended.{wrong_end, whole_line}
 use Rattle.console.proofs.reader.Reader.templates.Goals as goal
 

@@ -3,7 +3,7 @@ use Rattle.names.specs.Book.{texts}
 use Rattle.policy_set.specs.Meaning.{maps_of}
 use Rattle.policy_set.specs.Validation.{try_validate_answer}
 use Rattle.console.specs.Reader.{made, answered}
-use Rattle.console.specs.Reading.{left}
+use Rattle.console.specs.Args.{left}
 use Rattle.console.proofs.Ended.{wrong_end}
 use Rattle.console.proofs.reader.Reader.validate.Goals as goal
 

@@ -29,8 +29,8 @@ wrong_text wrong.LateClause = codes "clauses come before the first call on a set
 
 -- An answer is printed as it is; a line that is no call is told, and a refusal with its number and values; an error is
 -- that there is too little memory.
-abbrev pub Told : List (List ℕ) → Result (Option (String Global)) Stop → Result (Option (String Global)) AllocError → Type 0
-Told texts (Ok line) result = result ≡ Ok line
-Told texts (Err (stop.Wrong w)) result = IfOk result (λ line. IsSomeAnd line (λ s. string_bytes s ≡ codes "error " ++ wrong_text w))
-Told texts (Err (stop.Refused refusal)) result = IfOk result (λ line. IsSomeAnd line (λ s. string_bytes s ≡ refused_line texts refusal))
-Told texts (Err stop.NoMemory) result = IsErr result
+abbrev pub Printed : List (List ℕ) → Result (Option (String Global)) Stop → Result (Option (String Global)) AllocError → Type 0
+Printed texts (Ok line) result = result ≡ Ok line
+Printed texts (Err (stop.Wrong w)) result = IfOk result (λ line. IsSomeAnd line (λ s. string_bytes s ≡ codes "error " ++ wrong_text w))
+Printed texts (Err (stop.Refused refusal)) result = IfOk result (λ line. IsSomeAnd line (λ s. string_bytes s ≡ refused_line texts refusal))
+Printed texts (Err stop.NoMemory) result = IsErr result

@@ -5,7 +5,7 @@ use Rattle.policy.specs.Known.{template_known}
 use Rattle.policy.specs.declared.template.Template.{Template}
 use Rattle.policy_set.specs.Answers.{static_parts}
 use Rattle.console.proofs.Answers.{carried}
-use Rattle.console.proofs.reader.Reader.static_alone.Goals as goal
+use Rattle.console.proofs.reader.Reader.static_as_policy.Goals as goal
 
 pub returns-clause-policy : goal.returns-clause-policy
 returns-clause-policy g c =
