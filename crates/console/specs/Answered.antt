@@ -1,4 +1,4 @@
--- What the console answers of what a call on the books or sets answers.
+-- How results of the console stand to the answers of calls on books and sets.
 use Rattle.std.specs.Prelude.{◌≡◌, Ok, Err, Result}
 use Rattle.refusals.specs.declared.refusal.Refusal.{Refusal}
 use Rattle.console.specs.declared.stop.Stop.{Stop}
@@ -10,3 +10,10 @@ AnswersAs view (Ok x) answer = answer ≡ Ok (view x)
 AnswersAs view (Err (Refused refusal)) answer = answer ≡ Err refusal
 AnswersAs view (Err (Wrong w)) answer = ⊥
 AnswersAs view (Err NoMemory) answer = Unit {0}
+
+-- The line is no call; there may also be too little memory.
+abbrev pub IsWrong : {X : Type 0} → Result X Stop → Type 0
+IsWrong (Ok x) = ⊥
+IsWrong (Err (Wrong w)) = Unit {0}
+IsWrong (Err (Refused refusal)) = ⊥
+IsWrong (Err NoMemory) = Unit {0}

@@ -1,10 +1,10 @@
 pub mod Actions
 pub mod Answered
 pub mod Args
+pub mod Asked
 pub mod Bodies
 pub mod ClauseLines
 pub mod Dump
-pub mod Line
 pub mod Lines
 pub mod Listings
 pub mod Naming

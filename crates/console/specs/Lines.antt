@@ -9,12 +9,13 @@ use Rattle.clauses.specs.TreeBooks.{trees as trees_of}
 use Rattle.names.specs.Book.{texts as texts_of, limits as limits_of}
 use Rattle.calls.specs.Meaning.{state_of}
 use Rattle.calls.specs.Model.{empty_sets}
+use Rattle.console.specs.Answered.{IsWrong}
 use Rattle.console.specs.Args.{next_word, rest, side_of}
 use Rattle.console.specs.ClauseLines.{sealed_line, TreeLine}
-use Rattle.console.specs.Line.{name_word, name_call, meant, Asks}
+use Rattle.console.specs.Asked.{name_word, name_call, meant, Asks}
 use Rattle.console.specs.Naming.{Answers, texts_after}
 use Rattle.console.specs.Printed.{Printed}
-use Rattle.console.specs.Reader.{ReadsAs, wrong}
+use Rattle.console.specs.Reader.{ReadsAs}
 use Rattle.console.specs.SetLines.{OnSet, closed_after}
 use Rattle.console.specs.SetWords.{set_word}
 use Rattle.console.specs.Settling.{settled, kind_after}
@@ -101,7 +102,7 @@ pub record OnSets (before : Session) (first : SetWord) (words : List (List ℕ))
 
 -- A line that is no call is wrong, and leaves all as it is.
 abbrev pub NoCall : Session → Result (String Global) Stop → Session → Type 0
-NoCall before result after = ReadsAs string_bytes result [] (wrong []) × (after ≡ before)
+NoCall before result after = IsWrong result × (after ≡ before)
 
 -- A call by what its first word is of.
 abbrev pub CallOf : Session → Option NameWord → Option ClauseWord → Option SetWord → List (List ℕ) → Result (String Global) Stop → Session → Type 0
@@ -123,7 +124,7 @@ LineOf before (head ∷ words) result after =
     ((result ≡ Ok None) × (after ≡ before))
     ((answer : Result (String Global) Stop) × CallOf before (name_word head) (clause_word head) (set_word head) words answer after × (result ≡ answered_line answer))
 
--- What is printed of a line: its answer, or why there is none.
+-- What is printed of a line: its answer, its refusal or its error.
 abbrev pub LinePrinted : Session → List (List ℕ) → Result (Option (String Global)) AllocError → Session → Type 0
 LinePrinted before words result after =
     (answer : Result (Option (String Global)) Stop) × LineOf before words answer after × Printed (texts_of after.reader.book) answer result

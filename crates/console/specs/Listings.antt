@@ -18,10 +18,11 @@ ids_line texts ids = counted_line (map (id_word texts) ids)
 abbrev pub templates : Maps → List ℕ
 templates m = all_places (templates_answer m)
 
--- The ids of all templates, and of all policies with those of their templates.
+-- The ids of all templates, bodies of static policies among them.
 abbrev pub all_templates : Maps → List ℕ
 all_templates m = all_places (all_templates_answer m)
 
+-- The ids of all policies, each with its template's.
 abbrev pub all_policies : Maps → List (ℕ × ℕ)
 all_policies m = all_places (policies_answer m)
 

@@ -7,7 +7,7 @@ use Rattle.names.specs.TypeName.{TypeName, IsAction}
 use Rattle.script.specs.Percent.{encoded}
 use Rattle.script.specs.declared.encode.Colon.TheVariants.{Coded}
 use Rattle.console.specs.Answered.{AnswersAs}
-use Rattle.console.specs.Line.{Line, wrong, name, text, type_name, action}
+use Rattle.console.specs.Asked.{Asked, wrong, name, text, type_name, action}
 use Rattle.console.specs.declared.stop.Stop.{Stop}
 
 -- A call prints its line or is refused; there may also be too little memory.
@@ -39,7 +39,7 @@ TellsNamed (Ok n) P result = Tells P result
 TellsNamed (Err refusal) P result = Prints result (Err refusal)
 
 -- What a call on names prints, over the limits and the texts of the book.
-abbrev pub Answers : Limits → List (List ℕ) → Line → Result (String Global) Stop → Type 0
+abbrev pub Answers : Limits → List (List ℕ) → Asked → Result (String Global) Stop → Type 0
 Answers limits texts (name t) result = Prints result (number_line (name_answer limits texts t))
 Answers limits texts (text n) result = Prints result (text_line (text_answer texts n))
 Answers limits texts (type_name t) result = Tells (TypeName t) result
@@ -47,7 +47,7 @@ Answers limits texts (action t) result = TellsNamed (name_answer limits texts t)
 Answers limits texts wrong result = ⊥
 
 -- The texts of the book afterwards.
-abbrev pub texts_after : Limits → List (List ℕ) → Line → List (List ℕ)
+abbrev pub texts_after : Limits → List (List ℕ) → Asked → List (List ℕ)
 texts_after limits texts (name t) = name_after limits texts t
 texts_after limits texts (action t) = name_after limits texts t
 texts_after limits texts (text n) = texts

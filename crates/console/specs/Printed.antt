@@ -27,8 +27,8 @@ wrong_text wrong.BadMerge = codes "a merge is to rename or refuse"
 wrong_text wrong.OtherBook = codes "a script has clauses or trees, not both"
 wrong_text wrong.LateClause = codes "clauses come before the first call on a set"
 
--- An answer is printed as it is; a line that is no call is told, and a refusal with its number and values; an error is
--- that there is too little memory.
+-- An answer is printed as it is; of a line that is no call, what is wrong with it; of a refusal, its number and values.
+-- The only error is that there is too little memory.
 abbrev pub Printed : List (List ℕ) → Result (Option (String Global)) Stop → Result (Option (String Global)) AllocError → Type 0
 Printed texts (Ok line) result = result ≡ Ok line
 Printed texts (Err (stop.Wrong w)) result = IfOk result (λ line. IsSomeAnd line (λ s. string_bytes s ≡ codes "error " ++ wrong_text w))

@@ -13,7 +13,7 @@ use Rattle.console.specs.Reader.{Reading, given, ReadsInto, next, made, if_some,
 use Rattle.console.specs.declared.set_calls.Change.{Change}
 use Rattle.console.specs.declared.set_calls.Change.TheVariants as change
 use Rattle.console.specs.declared.stop.Stop.{Stop}
-use Rattle.console.specs.SetWords.{renames_meant}
+use Rattle.console.specs.SetWords.{renames}
 use Rattle.console.specs.Templates.{id_and_values, TemplateRead, StaticRead, PolicyRead}
 
 -- TEMPLATEID ID PV RV, to the end of the line
@@ -33,7 +33,7 @@ apart B B = false
 abbrev pub merge : Side → List (List ℕ) → Option Call
 merge into words =
     option_and_then (λ word. option_and_then (λ source. cond (apart into source)
-    (option_and_then (λ second. option_and_then (λ rename. option_map (call.Merge into rename) (room 320 (rest (rest words)))) (renames_meant second))
+    (option_and_then (λ second. option_and_then (λ rename. option_map (call.Merge into rename) (room 320 (rest (rest words)))) (renames second))
     (next_word (rest words))) None) (side_of word)) (next_word words)
 
 -- The call with what was read for it.

@@ -13,8 +13,8 @@ use Rattle.calls.specs.declared.answer.Handed.{Handed}
 use Rattle.calls.specs.declared.call.Call.{Call}
 use Rattle.calls.specs.declared.call.Side.{Side}
 use Rattle.printing.specs.Answers.{handed_line}
-use Rattle.console.specs.Answered.{AnswersAs}
-use Rattle.console.specs.Reader.{ReadsAs, wrong}
+use Rattle.console.specs.Answered.{AnswersAs, IsWrong}
+use Rattle.console.specs.Reader.{ReadsAs}
 use Rattle.console.specs.SetCalls.{ChangeRead}
 use Rattle.console.specs.SetReads.{set_read}
 use Rattle.console.specs.declared.clause_calls.Clauses.{Clauses}
@@ -70,7 +70,7 @@ OnBook clauses None limits before first side words result after = SetLine limits
 
 -- The same where the next word names a set; else the line is wrong.
 abbrev pub OnSet : Clauses → Limits → State → SetWord → Option Side → List (List ℕ) → Result (String Global) Stop → State → Type 0
-OnSet clauses limits before first None words result after = ReadsAs string_bytes result after.texts (wrong after.texts) × (after ≡ before)
+OnSet clauses limits before first None words result after = IsWrong result × (after ≡ before)
 OnSet clauses limits before first (Some side) words result after = OnBook clauses clauses.kind limits before first side words result after
 
 -- Whether no clause may come any more: once a line has named a set.

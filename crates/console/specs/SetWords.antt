@@ -42,5 +42,5 @@ abbrev pub set_word : List ℕ → Option SetWord
 set_word head = change_or (change_word head) (read_word head)
 
 -- Whether a merge may rename.
-abbrev pub renames_meant : List ℕ → Option Bool
-renames_meant word = cond (bytes_eq word (codes "rename")) (Some true) (cond (bytes_eq word (codes "refuse")) (Some false) None)
+abbrev pub renames : List ℕ → Option Bool
+renames word = cond (bytes_eq word (codes "rename")) (Some true) (cond (bytes_eq word (codes "refuse")) (Some false) None)

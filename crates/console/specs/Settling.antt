@@ -12,7 +12,7 @@ same_kind Sealed Trees = Err OtherBook
 same_kind Trees Sealed = Err OtherBook
 same_kind Trees Trees = Ok tt
 
--- The kind that the script has then: the first clause says it.
+-- The kind that the script has then: the first line that enters a clause says it.
 abbrev pub kind_then : Option Kind → Kind → Kind
 kind_then None kind = kind
 kind_then (Some first) kind = first

@@ -35,7 +35,8 @@ abbrev pub or_stop : {X : Type 0} → Result X Refusal → Result X Stop
 or_stop (Ok x) = Ok x
 or_stop (Err refusal) = Err (Refused refusal)
 
--- What is asked of the result where something was read before, with the texts between; else the error stays.
+-- Where something was read before, what is asked of the result with it; else the result is the same error, and the texts
+-- stay as that reading left them.
 abbrev pub GoesOn : {X Y : Type 0} → Result X Stop → List (List ℕ) → Result Y Stop → List (List ℕ) → (X → Type 0) → Type 0
 GoesOn (Ok x) between result after P = P x
 GoesOn (Err stop) between result after P = (result ≡ Err stop) × (after ≡ between)

@@ -38,7 +38,7 @@ pub enum Kind {
 pub struct Clauses {
     sealed: SealedBook,
     trees: TreeBook,
-    // None before the first clause.
+    // None before the first line that enters a clause.
     kind: Option<Kind>,
     // Whether a line has named a set, behind which no clause comes.
     closed: bool,
@@ -132,7 +132,7 @@ impl Clauses {
         })
     }
 
-    // The first clause says which book the script stands on.
+    // The first line that enters a clause says which book the script stands on, even where it is refused or an error.
     fn settle(&mut self, kind: Kind) -> Result<(), Wrong>
         ensures answer { result ≡ settled self.old.closed self.old.kind kind }
         ensures kind { self.new.kind ≡ kind_after self.old.closed self.old.kind kind }

@@ -1,7 +1,7 @@
 ghost use Rattle.std.specs.Prelude.{◌≡◌, IfOk, string_bytes};
 ghost use Rattle.console.specs.Args.{left, rest, Reads};
 ghost use Rattle.names.specs.Book.{texts as texts_of, limits as limits_of};
-ghost use Rattle.console.specs.Line.{name_word, argued, name_call, meant, Asks};
+ghost use Rattle.console.specs.Asked.{name_word, argued, name_call, meant, Asks};
 ghost use Rattle.console.specs.Naming.{Answers, texts_after, yes_word};
 
 use crate::args::Args;

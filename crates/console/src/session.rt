@@ -2,7 +2,7 @@ ghost use Rattle.std.specs.Prelude.{◌≡◌, IfOk};
 ghost use Rattle.names.specs.Book.{texts as texts_of, limits as limits_of};
 ghost use Rattle.script.specs.Words.{words as words_of};
 ghost use Rattle.console.specs.Args.{left};
-ghost use Rattle.console.specs.Line.{name_word};
+ghost use Rattle.console.specs.Asked.{name_word};
 ghost use Rattle.console.specs.Lines.{is_comment as is_comment_meant, clause_word, Begins, OnNames, OnClauses, CallOf, LineOf, LinePrinted};
 ghost use Rattle.console.specs.Printed.{Printed};
 ghost use Rattle.console.specs.SetWords.{set_word};
@@ -19,7 +19,7 @@ use names::kept::NameBook;
 use printing::refused::refused;
 use std::alloc::{AllocError, Global};
 
-// What a run keeps from line to line.
+// What a script keeps from line to line.
 #[derive(Drop)]
 pub struct Session {
     reader: Reader,
@@ -27,7 +27,7 @@ pub struct Session {
     sets: Sets,
 }
 
-// The line of an answer, or of why there is none; no line where there is nothing to answer.
+// What is printed: an answer, a refusal or an error; nothing of a blank line or a comment.
 fn printed(
     heap: Global,
     book: &NameBook,
@@ -54,7 +54,7 @@ fn is_comment(head: &[u8]) -> bool
 }
 
 impl Session {
-    // A run on empty books.
+    // A session on empty books and sets.
     pub(crate) fn new(heap: Global) -> Result<Session, AllocError>
         ensures { IfOk result (λ session. Begins session) }
     {

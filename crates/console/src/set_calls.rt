@@ -1,14 +1,13 @@
 ghost use Rattle.std.specs.Prelude.{◌≡◌, OnOk};
 ghost use Rattle.std.specs.Result.{result_ok};
-ghost use Rattle.names.specs.Book.{texts as texts_of};
-ghost use Rattle.names.specs.Book.{limits as limits_of};
+ghost use Rattle.names.specs.Book.{texts as texts_of, limits as limits_of};
 ghost use Rattle.calls.specs.Model.{told, answered, step};
 ghost use Rattle.calls.specs.Meaning.{state_of};
 ghost use Rattle.console.specs.Reader.{ReadsAs, ReadsInto};
 ghost use Rattle.console.specs.Args.{left, rest};
 ghost use Rattle.console.specs.SetCalls.{link as link_meant, merge as merge_meant, ChangeRead};
 ghost use Rattle.console.specs.SetLines.{ChangeLine, SetLine};
-ghost use Rattle.console.specs.SetWords.{change_word, set_word, renames_meant};
+ghost use Rattle.console.specs.SetWords.{change_word, set_word, renames as renames_meant};
 ghost use Rattle.console.specs.Templates.{by_parts, id_and_body as id_and_body_meant, id_and_values as id_and_values_meant, policy_kind, TemplateRead, StaticRead, KindRead, PolicyRead};
 ghost use Rattle.console.specs.declared.set_calls.PolicyKind.TheVariants.{Static as kind_static, Link as kind_link};
 

@@ -1,4 +1,4 @@
-ghost use Rattle.std.specs.Prelude.{◌≡◌, Some as Present, codes};
+ghost use Rattle.std.specs.Prelude.{◌≡◌};
 ghost use Rattle.refusals.specs.declared.refusal.Refusal.TheVariants.{UnknownName as Unlisted};
 ghost use Rattle.console.specs.Printed.{wrong_text};
 ghost use Rattle.console.specs.declared.stop.Stop.TheVariants.{Wrong as Broken, Refused as Declined, NoMemory as Exhausted};
@@ -53,7 +53,7 @@ impl Wrong {
     }
 }
 
-// Why a line has no answer of its own.
+// What stops a line.
 #[derive(Clone, Copy)]
 pub enum Stop {
     // The line is no call.

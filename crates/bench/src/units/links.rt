@@ -16,7 +16,6 @@ use crate::unit::Unit;
 use policy::bound::Policy;
 use policy::values::SlotEnv;
 use policy_set::set::PolicySet;
-use refusals::NameNumber;
 use std::alloc::Global;
 
 // One policy less than a full set has.

@@ -5,7 +5,7 @@ use Rattle.refusals.specs.declared.refusal.Refusal.{Refusal}
 use Rattle.names.specs.Book.{texts, limits}
 use Rattle.names.specs.Names.{Limits, name_answer}
 use Rattle.names.specs.TypeName.{IsAction}
-use Rattle.console.specs.Line.{action, meant}
+use Rattle.console.specs.Asked.{action, meant}
 use Rattle.console.specs.Naming.{Answers, TellsNamed}
 use Rattle.console.specs.declared.stop.Stop.{Stop}
 use Rattle.console.specs.declared.stop.Stop.TheVariants.{NoMemory}

@@ -1,5 +1,5 @@
 use Rattle.std.proofs.Common.{codes, arith, rules}
-use Rattle.console.specs.Line.{name_word}
+use Rattle.console.specs.Asked.{name_word}
 use Rattle.console.proofs.Spelling.{spelled}
 use Rattle.console.proofs.name_calls.NameWord.of.Goals as goal
 

@@ -11,12 +11,12 @@ use Rattle.console.specs.declared.name_calls.NameCall.{NameCall}
 use Rattle.console.specs.declared.name_calls.NameCall.TheVariants as call
 
 -- A call on names, or what is no call.
-pub data Line : Type 0 where
-  wrong : Line
-  name : List ℕ → Line
-  text : ℕ → Line
-  type_name : List ℕ → Line
-  action : List ℕ → Line
+pub data Asked : Type 0 where
+  wrong : Asked
+  name : List ℕ → Asked
+  text : ℕ → Asked
+  type_name : List ℕ → Asked
+  action : List ℕ → Asked
 
 -- The first word of a call on names.
 abbrev pub name_word : List ℕ → Option NameWord
@@ -26,31 +26,31 @@ name_word head =
     (cond (bytes_eq head (codes "type")) (Some word.«Type») (cond (bytes_eq head (codes "action")) (Some word.Action) None)))
 
 -- The call on names that a word and the next word ask for.
-abbrev pub argued : NameWord → List (List ℕ) → Option Line
+abbrev pub argued : NameWord → List (List ℕ) → Option Asked
 argued word.Name args = option_map name (next_text args)
 argued word.Text args = option_map text (next_number args)
 argued word.«Type» args = option_map type_name (next_text args)
 argued word.Action args = option_map action (next_text args)
 
 -- A call that has to end the line.
-abbrev pub ended : Option Line → List (List ℕ) → Line
+abbrev pub ended : Option Asked → List (List ℕ) → Asked
 ended None more = wrong
 ended (Some line) [] = line
 ended (Some line) (word ∷ more) = wrong
 
 -- The call on names that a word and all words behind it ask for.
-abbrev pub name_call : NameWord → List (List ℕ) → Line
+abbrev pub name_call : NameWord → List (List ℕ) → Asked
 name_call first args = ended (argued first args) (rest args)
 
 -- What a call that was read asks for.
-abbrev pub meant : NameCall → Line
+abbrev pub meant : NameCall → Asked
 meant (call.Name v) = name (vec_items v)
 meant (call.Text n) = text n
 meant (call.«Type» v) = type_name (vec_items v)
 meant (call.Action v) = action (vec_items v)
 
 -- A call that was read is the one that the line asks for, or the line is no call; there may also be too little memory.
-abbrev pub Asks : Result NameCall Stop → Line → Type 0
+abbrev pub Asks : Result NameCall Stop → Asked → Type 0
 Asks (Ok c) line = line ≡ meant c
 Asks (Err (Wrong w)) line = line ≡ wrong
 Asks (Err (Refused refusal)) line = ⊥
