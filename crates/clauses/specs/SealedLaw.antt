@@ -6,8 +6,9 @@ use Rattle.std.specs.Str.{bytes_eq}
 use Rattle.std.proofs.lemmas.Slice.Eq.{bytes_eq-Decides}
 use Rattle.refusals.specs.declared.slots.SlotId.TheVariants.{Principal, Resource}
 use Rattle.clauses.specs.declared.sealed.scanner.Scanner.TheVariants.{Plain}
-use Rattle.clauses.specs.Book.{DecidesEquality}
-use Rattle.clauses.specs.Sealed.{scanned, text_slots, text_constant}
+use Rattle.clauses.specs.Book.{DecidesEquality, Lawful, listing}
+use Rattle.clauses.specs.Sealed.{scanned, text_slots, text_constant, text_clause}
+use Rattle.clauses.specs.Listing.{lawful_by}
 use Rattle.clauses.specs.SlotSets.{set_small}
 
 -- Comparing byte by byte says yes exactly of equal texts.
@@ -32,3 +33,7 @@ texts_slotless t v h =
 -- The slots of a text are two bits.
 pub texts_small : (t : List ℕ) → text_slots t < 4
 texts_small t = set_small (scanned Principal Plain t) (scanned Resource Plain t)
+
+-- A book of any sealed texts shows the law of clause books.
+pub lawful_texts : (ts : List (List ℕ)) → Lawful (listing text_clause ts)
+lawful_texts ts = lawful_by text_clause (λ t. refl) texts_small texts_slotless ts

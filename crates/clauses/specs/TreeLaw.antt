@@ -7,8 +7,9 @@ use Rattle.refusals.specs.declared.slots.SlotId.TheVariants.{Principal, Resource
 use Rattle.clauses.specs.declared.tree.node.Node.{Node}
 use Rattle.clauses.specs.declared.tree.node.Node.TheVariants as node
 use Rattle.std.specs.Bool.{Decides}
-use Rattle.clauses.specs.Book.{DecidesEquality}
-use Rattle.clauses.specs.Nodes.{same_nodes, node_constant, mentions, tree_slots, tree_constant}
+use Rattle.clauses.specs.Book.{DecidesEquality, Lawful, listing}
+use Rattle.clauses.specs.Nodes.{same_nodes, node_constant, mentions, tree_slots, tree_constant, tree_clause}
+use Rattle.clauses.specs.Listing.{lawful_by}
 use Rattle.clauses.specs.NodeEquals.{node_decides}
 use Rattle.clauses.specs.SlotSets.{set_small}
 
@@ -42,3 +43,7 @@ trees_slotless (n ∷ (m ∷ ns)) v h = let z : ◌≡◌ {A = ℕ} 0 1 = cc in 
 -- The slots of a list of nodes are two bits.
 pub trees_small : (t : List Node) → tree_slots t < 4
 trees_small t = set_small (mentions Principal t) (mentions Resource t)
+
+-- A book of any trees shows the law of clause books.
+pub lawful_trees : (ts : List (List Node)) → Lawful (listing tree_clause ts)
+lawful_trees ts = lawful_by tree_clause (λ t. refl) trees_small trees_slotless ts

@@ -39,3 +39,6 @@ within-parts cs t e =
     and_from _ _
     (ap (λ (b : Bool). cond (slotted t.principal) b true) p ∙ first_has (slotted t.principal) (slotted t.resource) (clause_has cs t.clause Principal))
     (ap (λ (b : Bool). cond (slotted t.resource) b true) r ∙ second_has (slotted t.principal) (slotted t.resource) (clause_has cs t.clause Resource))
+
+pub within_condition : {C : Type 0} (cs : List (Clause C)) → Lawful cs → (t : Template) → t.slots ≡ condition_slots cs t → scopes_within t ≡ true
+within_condition cs lawful t e = within-parts cs t (e ∙ sym (parts_slots cs lawful t))

@@ -1,5 +1,6 @@
 ghost use Rattle.std.specs.Prelude.{◌≡◌, ◌<◌, [], ◌∷◌, length};
 ghost use Rattle.std.specs.Iterator.{YieldsFirstRef, item_count};
+ghost use Rattle.std.specs.Str.{bytes_eq};
 ghost use Rattle.script.specs.Words.{separates, words};
 ghost use Rattle.script.specs.Front.{front};
 ghost use Rattle.script.specs.Cursor.{to_come};
@@ -57,4 +58,11 @@ impl<'a> Iterator for Words<'a> {
         self.rest = rest;
         if word.is_empty() { None } else { Some(word) }
     }
+}
+
+// Whether a word is spelled so, byte by byte.
+pub fn same_word(word: &[u8], spelling: &[u8]) -> bool
+    ensures { result ≡ bytes_eq word.now spelling.now }
+{
+    word == spelling
 }
