@@ -22,35 +22,39 @@ use std::io::{BufRead, BufReader, BufWriter, Read, Stdout, Write};
 use std::{env, iter};
 
 // The lines that stand behind the last one of every script.
-const LAST_LINES: [&[u8]; 2] = [b"dump A", b"dump B"];
+const LAST_LINES: &[u8] = b"dump A\ndump B\n";
 
-// Puts the answer to a line behind the output.
-fn answer_line(
+// Answers every line, of which the last one may lack its line feed. One buffer takes the lines in turn, and the answers are
+// written in the same loop: `split` asks for memory at each line, and a function for one line copies its error's whole room.
+fn answer_lines<R: BufRead + Drop>(
     session: &mut Session,
-    line: &[u8],
+    heap: Global,
+    mut input: R,
     output: &mut BufWriter<Stdout>,
 ) -> anyhow::Result<()> {
-    if let Some(answer) = session.answer(line)? {
-        writeln!(output, "{answer}")?;
+    let mut line = Vec::new(heap);
+    for _ in 0..u64::MAX {
+        line.clear();
+        if input.read_until(b'\n', &mut line)? == 0 {
+            break;
+        }
+        let text = line.as_slice();
+        if let Some(answer) = session.answer(text.strip_suffix(b"\n").unwrap_or(text))? {
+            writeln!(output, "{answer}")?;
+        }
     }
     Ok(())
 }
 
-// Answers every line of a script, which may end without a line feed, and then dumps both sets.
+// Answers every line of a script, and then dumps both sets.
 fn answer_script<R: Read + Drop>(
     heap: Global,
     script: R,
     output: &mut BufWriter<Stdout>,
 ) -> anyhow::Result<()> {
     let mut session = Session::new(heap).map_err(|_| anyhow!("no memory for the books"))?;
-    for line in BufReader::new(heap, script)?.split(heap, b'\n') {
-        let line = line?;
-        answer_line(&mut session, line.as_slice(), output)?;
-    }
-    for last in LAST_LINES {
-        answer_line(&mut session, last, output)?;
-    }
-    Ok(())
+    answer_lines(&mut session, heap, BufReader::new(heap, script)?, output)?;
+    answer_lines(&mut session, heap, LAST_LINES, output)
 }
 
 // Answers the script of a path; `-` is standard input.

@@ -8,6 +8,10 @@ use Rattle.script.specs.declared.encode.Colon.TheVariants.{Coded, Plain}
 use Rattle.script.specs.Percent.{hex_value, hex_byte, put, spelled, decoded, plain, hex_digit, written, encoded}
 use Rattle.script.proofs.Spelling.{spelled_other, decoded_spelled}
 
+-- A digit that is written is ASCII.
+pub hex_digit_small : (v : ℕ) → v < 16 → hex_digit v < 128
+hex_digit_small v h = grind (arith, nat_tests)
+
 -- A digit that is written has its value.
 hex_value_digit : (v : ℕ) → v < 16 → hex_value (hex_digit v) ≡ Some v
 hex_value_digit v h = grind (arith, nat_tests)

@@ -2,7 +2,6 @@ ghost use Rattle.std.specs.Prelude.{◌≡◌, ◌<◌, ◌++◌, IfOk, Some as 
 ghost use Rattle.script.specs.Percent.{plain, hex_digit, written, encoded, decoded};
 
 use std::alloc::{AllocError, Global};
-use std::fmt::Write;
 
 // How a text's colons are written.
 #[derive(Clone, Copy)]
@@ -23,14 +22,29 @@ fn is_plain(byte: u8, colon: Colon) -> bool
     )
 }
 
-// Writes a byte behind a word, as it is or as two capital hexadecimal digits.
+// The hexadecimal digit of a value below 16, a capital one above 9.
+fn hex_digit(value: u8) -> u8
+    requires { value < 16 }
+    ensures { result ≡ hex_digit value }
+{
+    if value < 10 {
+        b'0' + value
+    } else {
+        b'A' + (value - 10)
+    }
+}
+
+// Writes a byte behind a word, as it is or as two capital hexadecimal digits. The digits are written out, since `write!`
+// takes more than twice the time, and names of other letters than ASCII have nothing else.
 fn push_byte(word: &mut String, byte: u8, colon: Colon) -> Result<(), AllocError>
     ensures { OnOk result (string_bytes word.new ≡ string_bytes word.old ++ written colon byte) }
 {
     if is_plain(byte, colon) {
         return word.push(char::from(byte));
     }
-    write!(word, "%{byte:02X}")
+    word.push('%')?;
+    word.push(char::from(hex_digit(byte / 16)))?;
+    word.push(char::from(hex_digit(byte % 16)))
 }
 
 // A text as one word.
