@@ -14,6 +14,7 @@ pub mod Changes
 pub mod Removed
 pub mod Listings
 pub mod Listed
+mod Walks
 pub mod Validates
 pub mod Granted
 pub mod Sets

@@ -78,15 +78,20 @@ impl PolicySet {
         Ok(self.linked_at(id, place))
     }
 
-    // The policy at a place among the members under a template.
+    // The policy at a place among the members under a template. The loop is written out: `filter` and `nth` of the library
+    // take up to a half more time, and a dump or a listing of links spends most of its own here.
     fn linked_at(&self, template: NameNumber, place: usize) -> Option<NameNumber>
         ensures { result ≡ linked_at (maps_of self.now) template place }
     {
-        self.members
-            .rows()
-            .iter()
-            .filter(|row| row.template == template)
-            .nth(place)
-            .map(|row| row.policy)
+        let mut left = place;
+        for row in self.members.rows() {
+            if row.template == template {
+                if left == 0 {
+                    return Some(row.policy);
+                }
+                left -= 1;
+            }
+        }
+        None
     }
 }
